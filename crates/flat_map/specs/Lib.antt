@@ -1,0 +1,4 @@
+pub mod Seek
+pub mod Shift
+pub mod Rows
+pub mod Table

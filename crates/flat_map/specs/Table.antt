@@ -1,0 +1,65 @@
+-- A table by value: an array of keys, an array of entries, and how many places are in use.
+-- Document 01: "counts within capacity, keys strictly ascending and equal to the entry's own fields, .. unused places blank".
+-- Assumes nothing.
+use Prim.Native.Nat.{ℕ, _+_, _<_, _≤_}
+use mathlib.Core.Bool.{Bool, true, false, _&&_}
+use mathlib.Core.List.{List, [], _∷_, map}
+use mathlib.Core.Path.{_≡_}
+use lib.Dec.{eqb, ltb, leb}
+use lib.ListN.{length, take, drop, getD}
+use Rattle.flat_map.specs.Rows.{pad}
+
+-- the first n keys go up strictly
+abbrev pub Rising : List ℕ → ℕ → Type 0
+Rising xs n = (i : ℕ) → i + 1 < n → getD xs i 0 < getD xs (i + 1) 0
+
+-- the keys from n on are 0
+abbrev pub ZeroFrom : List ℕ → ℕ → Type 0
+ZeroFrom xs n = (i : ℕ) → n ≤ i → getD xs i 0 ≡ 0
+
+-- the keys go up strictly, computed
+abbrev pub ascends : List ℕ → Bool
+ascends [] = true
+ascends (x ∷ []) = true
+ascends (x ∷ y ∷ r) = ltb x y && ascends (y ∷ r)
+
+-- two lists of numbers are equal, computed
+abbrev pub sameKeys : List ℕ → List ℕ → Bool
+sameKeys [] [] = true
+sameKeys [] (y ∷ ys) = false
+sameKeys (x ∷ xs) [] = false
+sameKeys (x ∷ xs) (y ∷ ys) = eqb x y && sameKeys xs ys
+
+-- every element passes a test
+abbrev pub every : {A : Type 0} → (A → Bool) → List A → Bool
+every p [] = true
+every p (x ∷ xs) = p x && every p xs
+
+module _ {E : Type 0} (cap : ℕ) (keyOf : E → ℕ) (blank : E) where
+  -- a table of `cap` places that is well formed
+  pub record Formed (keys : List ℕ) (entries : List E) (count : ℕ) : Type 0 where
+    pub key-places : length keys ≡ cap
+    pub entry-places : length entries ≡ cap
+    pub small : count ≤ cap
+    pub rising : Rising keys count
+    pub own : (i : ℕ) → i < count → getD keys i 0 ≡ keyOf (getD entries i blank)
+    pub zeros : ZeroFrom keys count
+    pub blanks : (i : ℕ) → count ≤ i → getD entries i blank ≡ blank
+
+  -- the two arrays that hold the rows xs
+  abbrev pub keysOf : List E → List ℕ
+  keysOf xs = pad cap 0 (map keyOf xs)
+
+  abbrev pub entriesOf : List E → List E
+  entriesOf xs = pad cap blank xs
+
+-- `Formed`, computed; isBlank tells the blank entry
+unfoldable pub formed : {E : Type 0} → ℕ → (E → ℕ) → (E → Bool) → List ℕ → List E → ℕ → Bool
+formed cap keyOf isBlank keys entries count =
+    eqb (length keys) cap
+    && (eqb (length entries) cap
+    && (leb count cap
+    && (ascends (take count keys)
+    && (sameKeys (take count keys) (map keyOf (take count entries))
+    && (every (eqb 0) (drop count keys)
+    && every isBlank (drop count entries))))))

@@ -1,0 +1,48 @@
+-- A table as mathematics: its rows, in strictly ascending order of their keys.
+-- Document 01: "map with unique keys in ascending order"; look-up, insert and remove "have their usual map meaning".
+-- Assumes nothing.
+use Prim.Native.Nat.{ℕ, _<_}
+use mathlib.Core.Bool.{Bool, cond}
+use mathlib.Core.List.{List, [], _∷_, map}
+use mathlib.Core.Option.{Option, none, some}
+use lib.Dec.{ltb, eqb}
+
+-- k is below the first key
+abbrev pub Before : ℕ → List ℕ → Type 0
+Before k [] = Unit {0}
+Before k (x ∷ xs) = k < x
+
+-- the keys go up strictly
+abbrev pub Asc : List ℕ → Type 0
+Asc [] = Unit {0}
+Asc (x ∷ xs) = Before x xs × Asc xs
+
+module _ {E : Type 0} (keyOf : E → ℕ) where
+  abbrev pub Ascending : List E → Type 0
+  Ascending xs = Asc (map keyOf xs)
+
+  -- the row under the key k
+  unfoldable pub lookup : ℕ → List E → Option E
+  lookup k [] = none
+  lookup k (x ∷ xs) = cond (eqb (keyOf x) k) (some x) (lookup k xs)
+
+  -- the row e, over the one of its key or else at its place in the order
+  unfoldable pub put : E → List E → List E
+  put e [] = e ∷ []
+  put e (x ∷ xs) = cond (ltb (keyOf e) (keyOf x)) (e ∷ x ∷ xs) (cond (eqb (keyOf x) (keyOf e)) (e ∷ xs) (x ∷ put e xs))
+
+  -- without the row under the key k
+  unfoldable pub remove : ℕ → List E → List E
+  remove k [] = []
+  remove k (x ∷ xs) = cond (eqb (keyOf x) k) xs (x ∷ remove k xs)
+
+module _ {E : Type 0} where
+  -- without the first row
+  abbrev pub popFirst : List E → List E
+  popFirst [] = []
+  popFirst (x ∷ xs) = xs
+
+  -- the rows that pass a test: what `retain` leaves
+  abbrev pub keep : (E → Bool) → List E → List E
+  keep p [] = []
+  keep p (x ∷ xs) = cond (p x) (x ∷ keep p xs) (keep p xs)
