@@ -7,6 +7,7 @@ use mathlib.Core.List.{List, [], _∷_, map}
 use mathlib.Core.Path.{_≡_}
 use lib.Dec.{eqb, ltb, leb}
 use lib.ListN.{length, take, drop, getD}
+use Rattle.standard.specs.Ordered.{Ascending}
 use Rattle.flat_map.specs.Rows.{pad}
 
 -- the first n keys go up strictly
@@ -46,12 +47,16 @@ module _ {E : Type 0} (cap : ℕ) (keyOf : E → ℕ) (blank : E) where
     pub zeros : ZeroFrom keys count
     pub blanks : (i : ℕ) → count ≤ i → getD entries i blank ≡ blank
 
-  -- the two arrays that hold the rows xs
-  abbrev pub keysOf : List E → List ℕ
-  keysOf xs = pad cap 0 (map keyOf xs)
+  -- rows that a table can hold
+  pub record Fit (xs : List E) : Type 0 where
+    pub small : length xs ≤ cap
+    pub ascending : Ascending keyOf xs
 
-  abbrev pub entriesOf : List E → List E
-  entriesOf xs = pad cap blank xs
+  -- the arrays and the count of a table that holds the rows xs
+  pub record Holds (keys : List ℕ) (entries : List E) (count : ℕ) (xs : List E) : Type 0 where
+    pub keys-are : keys ≡ pad cap 0 (map keyOf xs)
+    pub entries-are : entries ≡ pad cap blank xs
+    pub count-is : count ≡ length xs
 
 -- `Formed`, computed; isBlank tells the blank entry
 unfoldable pub formed : {E : Type 0} → ℕ → (E → ℕ) → (E → Bool) → List ℕ → List E → ℕ → Bool

@@ -1,0 +1,10 @@
+pub mod Compare
+pub mod Places
+pub mod Told
+pub mod Order
+pub mod Shift
+pub mod Rows
+pub mod Ordered
+pub mod Table
+pub mod WellFormed
+pub mod Query
