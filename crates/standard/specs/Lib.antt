@@ -1,1 +1,4 @@
 pub mod Tells
+pub mod Ring
+pub mod Median
+pub mod LinkCost
