@@ -1,3 +1,6 @@
 pub mod Ordered
 pub mod Query
 pub mod Tells
+pub mod Ring
+pub mod Median
+pub mod LinkCost
