@@ -9,7 +9,7 @@ use native.Mathlib.Omega.{arith}
 use lib.Dec.{ltb, eqb}
 use lib.ListN.{length}
 use borrow.Author.Tests.{lt-ltb, le-ltb, eq-eqb, ne-eqb}
-use Rattle.standard.specs.Ordered.{Before, Asc, Ascending, lookup, put, remove, popFirst, keep}
+use Rattle.standard.specs.Ordered.{Before, Asc, Ascending, lookup, put, countWith, remove, popFirst, keep}
 use Rattle.flat_map.proofs.Compare.{Tri, lt, eq, gt, tri}
 use Rattle.flat_map.proofs.Order.{before-trans}
 
@@ -223,22 +223,40 @@ module _ {E : Type 0} (keyOf : E → ℕ) where
         let r : xs ≡ ys = ih (λ k. rest q k (tri k (keyOf x))) in
         cc
 
-  -- how many rows there are after a put, and after a removal
-  pub length-put-new : (e : E) (xs : List E) → lookup keyOf (keyOf e) xs ≡ none → length (put keyOf e xs) ≡ suc (length xs)
-  length-put-new e [] h = rw (put-none keyOf e)
-  length-put-new e (x ∷ xs) h = go (tri (keyOf e) (keyOf x)) (λ q. length-put-new e xs q) where
-    go : Tri (keyOf e) (keyOf x) → (lookup keyOf (keyOf e) xs ≡ none → length (put keyOf e xs) ≡ suc (length xs)) → length (put keyOf e (x ∷ xs)) ≡ suc (suc (length xs))
-    go (lt p) ih = rw (put-lt keyOf e x xs p)
-    go (eq p) ih = absurd (none-some x (sym h ∙ lookup-here keyOf (keyOf e) x xs (sym p)))
-    go (gt p) ih = rw (put-gt keyOf e x xs p) (ap suc (ih (sym (lookup-past keyOf (keyOf e) x xs (λ q. omega arith)) ∙ h)))
+  -- how many rows there are once there is one under a key
+  pub count-with-missing : (k : ℕ) (xs : List E) → lookup keyOf k xs ≡ none → countWith keyOf k xs ≡ suc (length xs)
+  unfolding countWith
+  count-with-missing k [] h = refl
+  count-with-missing k (x ∷ xs) h = go (tri (keyOf x) k) (λ q. count-with-missing k xs q) where
+    past : (keyOf x ≡ k → ⊥) → (lookup keyOf k xs ≡ none → countWith keyOf k xs ≡ suc (length xs)) → countWith keyOf k (x ∷ xs) ≡ suc (suc (length xs))
+    past n ih = rw (ne-eqb (keyOf x) k n, countWith) (ap suc (ih (sym (lookup-past keyOf k x xs n) ∙ h)))
 
-  pub length-put-known : (e d : E) (xs : List E) → Ascending keyOf xs → lookup keyOf (keyOf e) xs ≡ some d → length (put keyOf e xs) ≡ length xs
-  length-put-known e d [] a h = absurd (none-some d (sym (lookup-none keyOf (keyOf e)) ∙ h))
-  length-put-known e d (x ∷ xs) a h = go (tri (keyOf e) (keyOf x)) (λ q. length-put-known e d xs (a .1) q) where
-    go : Tri (keyOf e) (keyOf x) → (lookup keyOf (keyOf e) xs ≡ some d → length (put keyOf e xs) ≡ length xs) → length (put keyOf e (x ∷ xs)) ≡ suc (length xs)
-    go (lt p) ih = absurd (none-some d (sym (lookup-below (keyOf e) (x ∷ xs) p a) ∙ h))
-    go (eq p) ih = rw (put-eq keyOf e x xs p)
-    go (gt p) ih = rw (put-gt keyOf e x xs p) (ap suc (ih (sym (lookup-past keyOf (keyOf e) x xs (λ q. omega arith)) ∙ h)))
+    go : Tri (keyOf x) k → (lookup keyOf k xs ≡ none → countWith keyOf k xs ≡ suc (length xs)) → countWith keyOf k (x ∷ xs) ≡ suc (suc (length xs))
+    go (lt p) ih = past (λ q. omega arith) ih
+    go (eq p) ih = absurd (none-some x (sym h ∙ lookup-here keyOf k x xs p))
+    go (gt p) ih = past (λ q. omega arith) ih
+
+  pub count-with-found : (k : ℕ) (d : E) (xs : List E) → lookup keyOf k xs ≡ some d → countWith keyOf k xs ≡ length xs
+  unfolding countWith
+  count-with-found k d [] h = absurd (none-some d (sym (lookup-none keyOf k) ∙ h))
+  count-with-found k d (x ∷ xs) h = go (tri (keyOf x) k) (λ q. count-with-found k d xs q) where
+    past : (keyOf x ≡ k → ⊥) → (lookup keyOf k xs ≡ some d → countWith keyOf k xs ≡ length xs) → countWith keyOf k (x ∷ xs) ≡ suc (length xs)
+    past n ih = rw (ne-eqb (keyOf x) k n, countWith) (ap suc (ih (sym (lookup-past keyOf k x xs n) ∙ h)))
+
+    go : Tri (keyOf x) k → (lookup keyOf k xs ≡ some d → countWith keyOf k xs ≡ length xs) → countWith keyOf k (x ∷ xs) ≡ suc (length xs)
+    go (lt p) ih = past (λ q. omega arith) ih
+    go (eq p) ih = rw (eq-eqb (keyOf x) k p, countWith)
+    go (gt p) ih = past (λ q. omega arith) ih
+
+  -- and so many there are after a put
+  pub length-put : (e : E) (xs : List E) → Ascending keyOf xs → length (put keyOf e xs) ≡ countWith keyOf (keyOf e) xs
+  unfolding countWith
+  length-put e [] a = rw (put-none keyOf e)
+  length-put e (x ∷ xs) a = go (tri (keyOf e) (keyOf x)) (length-put e xs (a .1)) where
+    go : Tri (keyOf e) (keyOf x) → length (put keyOf e xs) ≡ countWith keyOf (keyOf e) xs → length (put keyOf e (x ∷ xs)) ≡ countWith keyOf (keyOf e) (x ∷ xs)
+    go (lt p) ih = rw (put-lt keyOf e x xs p) (sym (count-with-missing (keyOf e) (x ∷ xs) (lookup-below (keyOf e) (x ∷ xs) p a)))
+    go (eq p) ih = rw (put-eq keyOf e x xs p, eq-eqb (keyOf x) (keyOf e) (sym p), countWith)
+    go (gt p) ih = rw (put-gt keyOf e x xs p, ne-eqb (keyOf x) (keyOf e) (λ q. omega arith), countWith) (ap suc ih)
 
   pub length-remove : (k : ℕ) (xs : List E) → length (remove keyOf k xs) ≤ length xs
   length-remove k [] = rw (remove-none keyOf k) (omega arith)

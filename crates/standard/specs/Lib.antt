@@ -4,3 +4,4 @@ pub mod Tells
 pub mod Ring
 pub mod Median
 pub mod LinkCost
+pub mod Route

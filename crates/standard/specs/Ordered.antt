@@ -1,11 +1,12 @@
 -- A table as mathematics: its rows, in strictly ascending order of their keys.
 -- Document 01: "map with unique keys in ascending order"; look-up, insert and remove "have their usual map meaning".
 -- Assumes nothing.
-use Prim.Native.Nat.{ℕ, _<_}
+use Prim.Native.Nat.{ℕ, suc, _<_}
 use mathlib.Core.Bool.{Bool, cond}
 use mathlib.Core.List.{List, [], _∷_, map}
 use mathlib.Core.Option.{Option, none, some}
 use lib.Dec.{ltb, eqb}
+use lib.ListN.{length}
 
 -- k is below the first key
 abbrev pub Before : ℕ → List ℕ → Type 0
@@ -30,6 +31,11 @@ module _ {E : Type 0} (keyOf : E → ℕ) where
   unfoldable pub put : E → List E → List E
   put e [] = e ∷ []
   put e (x ∷ xs) = cond (ltb (keyOf e) (keyOf x)) (e ∷ x ∷ xs) (cond (eqb (keyOf x) (keyOf e)) (e ∷ xs) (x ∷ put e xs))
+
+  -- how many rows there are once there is one under k
+  unfoldable pub countWith : ℕ → List E → ℕ
+  countWith k [] = 1
+  countWith k (x ∷ xs) = cond (eqb (keyOf x) k) (suc (length xs)) (suc (countWith k xs))
 
   -- without the row under the key k
   unfoldable pub remove : ℕ → List E → List E

@@ -1,0 +1,129 @@
+-- The route table under the laws of flat_map: the test of the blank entry tells it, the test of the table tells
+-- well-formedness, and a table whose arrays hold rows is the table of these rows.
+use Prim.Native.Nat.{ℕ}
+use mathlib.Core.Bool.{Bool, true, false, not, _&&_, false≢true, true≢false}
+use mathlib.Core.List.{List}
+use mathlib.Core.Path.{_≡_, refl, sym, ap, _∙_}
+use native.Mathlib.Omega.{arith}
+use lib.ListN.{length, take}
+use Rattle.standard.specs.Tells.{Tells}
+use Rattle.standard.specs.declared.Status.{Status}
+use Rattle.standard.specs.declared.Status.the-variants.{Active, DiscoveryUnderway, DiscoveryFailed, Inactive}
+use Rattle.standard.specs.declared.RouteEntry.{RouteEntry}
+use Rattle.standard.specs.Ordered.{Ascending}
+use Rattle.standard.specs.Route.{isActive, routeKey}
+use Rattle.standard.proofs.Tells.{yes-so, not-so}
+use Rattle.flat_map.specs.Table.{Formed, Fit, Holds}
+use Rattle.flat_map.proofs.Table.{view, fit, formed-rows, rows-back}
+use Rattle.flat_map.proofs.Told.{both-told, eq-told, told-as}
+use Rattle.flat_map.proofs.WellFormed.{formed-told}
+use Rattle.route_table.specs.declared.RouteTable.{RouteTable}
+use Rattle.route_table.specs.Table.{blankRoute, isBlank, WellFormed, wellFormed, rowsOf, tableOf}
+
+clear-told : (b : Bool) → Tells (b ≡ false) (not b)
+clear-told true = not-so (λ e. true≢false e)
+clear-told false = yes-so refl
+
+active-told : (s : Status) → Tells (s ≡ Active) (isActive s)
+active-told Active = yes-so refl
+active-told DiscoveryUnderway = not-so (λ e. let z : _≡_ {A = ℕ} 0 1 = cc in omega arith)
+active-told DiscoveryFailed = not-so (λ e. let z : _≡_ {A = ℕ} 0 1 = cc in omega arith)
+active-told Inactive = not-so (λ e. let z : _≡_ {A = ℕ} 0 1 = cc in omega arith)
+
+-- the fields of the blank entry, in the test's order
+Cleared : RouteEntry → Type 0
+Cleared e =
+    (e .destination .0 ≡ 0)
+    × ((e .«next_hop_address» .0 ≡ 0)
+    × ((e .«path_cost» ≡ 0)
+    × ((e .«total_usage_count» ≡ 0)
+    × ((e .«recent_activity» ≡ 0)
+    × ((e .«no_route_cache» ≡ false)
+    × ((e .«many_to_one» ≡ false)
+    × ((e .«route_record_required» ≡ false)
+    × ((e .expired ≡ false)
+    × (e .status ≡ Active)))))))))
+
+blank-is : (e : RouteEntry) → Cleared e → e ≡ blankRoute
+unfolding Cleared
+blank-is e (a, (b, (c, (d, (f, (g, (h, (i, (j, k))))))))) = λ z. record {
+  destination = record { 0 = a z };
+  status = k z;
+  «no_route_cache» = g z;
+  «many_to_one» = h z;
+  «route_record_required» = i z;
+  expired = j z;
+  «next_hop_address» = record { 0 = b z };
+  «path_cost» = c z;
+  «total_usage_count» = d z;
+  «recent_activity» = f z;
+}
+
+cleared : (e : RouteEntry) → e ≡ blankRoute → Cleared e
+unfolding Cleared
+cleared e q = (
+  ap (λ (x : RouteEntry). x .destination .0) q,
+  (
+    ap (λ (x : RouteEntry). x .«next_hop_address» .0) q,
+    (
+      ap (λ (x : RouteEntry). x .«path_cost») q,
+      (
+        ap (λ (x : RouteEntry). x .«total_usage_count») q,
+        (
+          ap (λ (x : RouteEntry). x .«recent_activity») q,
+          (
+            ap (λ (x : RouteEntry). x .«no_route_cache») q,
+            (
+              ap (λ (x : RouteEntry). x .«many_to_one») q,
+              (
+                ap (λ (x : RouteEntry). x .«route_record_required») q,
+                (
+                  ap (λ (x : RouteEntry). x .expired) q,
+                  ap (λ (x : RouteEntry). x .status) q,
+                ),
+              ),
+            ),
+          ),
+        ),
+      ),
+    ),
+  ),
+)
+
+pub blank-told : (e : RouteEntry) → Tells (e ≡ blankRoute) (isBlank e)
+unfolding Cleared
+blank-told e =
+    told-as (blank-is e) (cleared e)
+    (both-told (eq-told (e .destination .0) 0)
+    (both-told (eq-told (e .«next_hop_address» .0) 0)
+    (both-told (eq-told (e .«path_cost») 0)
+    (both-told (eq-told (e .«total_usage_count») 0)
+    (both-told (eq-told (e .«recent_activity») 0)
+    (both-told (clear-told (e .«no_route_cache»))
+    (both-told (clear-told (e .«many_to_one»))
+    (both-told (clear-told (e .«route_record_required»))
+    (both-told (clear-told (e .expired))
+    (active-told (e .status)))))))))))
+
+pub well-formed-told : (t : RouteTable) → Tells (WellFormed t) (wellFormed t)
+well-formed-told t = formed-told 64 routeKey blankRoute (t .keys) (t .entries) (t .count) isBlank blank-told
+
+pub as-table : (t : RouteTable) (xs : List RouteEntry) → Holds 64 routeKey blankRoute (t .keys) (t .entries) (t .count) xs → t ≡ tableOf xs
+unfolding tableOf
+as-table t xs h = λ z. record { keys = h .keys-are z; entries = h .entries-are z; count = h .count-is z }
+
+-- a well-formed table is the table of its rows
+pub table-view : (t : RouteTable) → WellFormed t → t ≡ tableOf (rowsOf t)
+table-view t w = as-table t (rowsOf t) (view 64 routeKey blankRoute (t .keys) (t .entries) (t .count) w)
+
+pub table-fit : (t : RouteTable) → WellFormed t → Fit 64 routeKey blankRoute (rowsOf t)
+table-fit t w = fit 64 routeKey blankRoute (t .keys) (t .entries) (t .count) w
+
+-- the table of rows that fit is well formed, and they are its rows
+pub table-formed : (xs : List RouteEntry) → Fit 64 routeKey blankRoute xs → WellFormed (tableOf xs)
+unfolding tableOf
+table-formed xs h = formed-rows 64 routeKey blankRoute xs h
+
+pub table-rows : (xs : List RouteEntry) → Fit 64 routeKey blankRoute xs → rowsOf (tableOf xs) ≡ xs
+unfolding tableOf
+table-rows xs h = rows-back 64 routeKey blankRoute xs h

@@ -1,0 +1,248 @@
+// The route table: 64 places by value, ordered by destination. Each function is a step on its rows.
+use flat_map::Place;
+use standard::RouteEntry;
+use standard::Status;
+use types::Nwk;
+ghost use mathlib.Core.Path.{_≡_};
+ghost use mathlib.Core.List.{[]};
+ghost use Prim.Native.Nat.{_+_, _-_, _≤_, _<_};
+ghost use lib.Dec.{leb};
+ghost use lib.ListN.{take};
+ghost use Rattle.flat_map.specs.Seek.{placeOf};
+ghost use Rattle.standard.specs.Ordered.{lookup, put, remove, countWith};
+ghost use Rattle.standard.specs.Route.{isActive, routeKey};
+ghost use Rattle.route_table.specs.Table.{blankRoute, isBlank, OwnKeys, BlankFrom, WellFormed, wellFormed, rowsOf, tableOf, inserted, replaced, removed, looked};
+ghost use Rattle.standard.specs.Tells.{Tells};
+
+pub struct RouteTable {
+    pub keys: [u64; 64],
+    pub entries: [RouteEntry; 64],
+    pub count: usize,
+}
+
+// What stands under a destination.
+pub enum RouteLookup {
+    Found(RouteEntry),
+    Missing,
+}
+
+// What stands in a place that is not in use.
+fn blank() -> RouteEntry
+    ensures { λ r. ⌜ r ≡ blankRoute ⌝ }
+{
+    RouteEntry {
+        destination: Nwk(0),
+        status: Status::Active,
+        no_route_cache: false,
+        many_to_one: false,
+        route_record_required: false,
+        expired: false,
+        next_hop_address: Nwk(0),
+        path_cost: 0,
+        total_usage_count: 0,
+        recent_activity: 0,
+    }
+}
+
+fn is_active(s: Status) -> bool
+    ensures { λ r. ⌜ r ≡ isActive s ⌝ }
+{
+    match s {
+        Status::Active => true,
+        Status::DiscoveryUnderway => false,
+        Status::DiscoveryFailed => false,
+        Status::Inactive => false,
+    }
+}
+
+// Whether an entry is the blank one.
+fn is_blank(e: RouteEntry) -> bool
+    ensures { λ r. ⌜ r ≡ isBlank e ⌝ }
+{
+    let s = e.status;
+    (e.destination.0 == 0)
+        & ((e.next_hop_address.0 == 0)
+            & ((e.path_cost == 0)
+                & ((e.total_usage_count == 0)
+                    & ((e.recent_activity == 0)
+                        & (!e.no_route_cache
+                            & (!e.many_to_one
+                                & (!e.route_record_required & (!e.expired & is_active(s)))))))))
+}
+
+// Whether each entry in use stands under its own destination.
+fn own_keys(t: RouteTable) -> bool
+    requires { ⌜ t .count ≤ 64 ⌝ }
+    ensures { λ r. ⌜ Tells (OwnKeys t) r ⌝ }
+{
+    let n = t.count;
+    let mut i: usize = 0;
+    while i < n {
+        let k = t.keys[i];
+        let e = t.entries[i];
+        if k != e.destination.0 as u64 {
+            return false;
+        }
+        i += 1;
+    }
+    true
+}
+
+// Whether the places that are not in use hold the blank entry.
+fn blank_from(t: RouteTable) -> bool
+    ensures { λ r. ⌜ Tells (BlankFrom t) r ⌝ }
+{
+    let mut i = t.count;
+    while i < 64 {
+        let e = t.entries[i];
+        if !is_blank(e) {
+            return false;
+        }
+        i += 1;
+    }
+    true
+}
+
+// An entry put in at a place, both arrays shifted right.
+fn insert_at(t: RouteTable, i: usize, key: u64, e: RouteEntry) -> RouteTable
+    requires { ⌜ t .count < 64 ⌝ }
+    ensures { λ r. ⌜ r ≡ inserted t i key e ⌝ }
+{
+    let mut u = t;
+    let mut k = key;
+    let mut x = e;
+    let mut j = i;
+    while j < 64 {
+        let k2 = u.keys[j];
+        let x2 = u.entries[j];
+        u.keys[j] = k;
+        u.entries[j] = x;
+        k = k2;
+        x = x2;
+        j += 1;
+    }
+    u.count = t.count + 1;
+    u
+}
+
+// The entry at a place replaced.
+fn set_at(t: RouteTable, i: usize, e: RouteEntry) -> RouteTable
+    requires { ⌜ i < 64 ⌝ }
+    ensures { λ r. ⌜ r ≡ replaced t i e ⌝ }
+{
+    let mut u = t;
+    u.entries[i] = e;
+    u
+}
+
+// The entry at a place taken out, both arrays shifted left.
+fn remove_at(t: RouteTable, i: usize) -> RouteTable
+    requires { ⌜ (i < 64) × (0 < t .count) ⌝ }
+    ensures { λ r. ⌜ r ≡ removed t i ⌝ }
+{
+    let mut u = t;
+    let mut j = i;
+    while j < 63 {
+        u.keys[j] = u.keys[j + 1];
+        let x = u.entries[j + 1];
+        u.entries[j] = x;
+        j += 1;
+    }
+    u.keys[63] = 0;
+    let b = blank();
+    u.entries[63] = b;
+    u.count = t.count - 1;
+    u
+}
+
+// The table with no route.
+pub fn new() -> RouteTable
+    ensures { λ r. ⌜ r ≡ tableOf [] ⌝ }
+{
+    let b = blank();
+    RouteTable {
+        keys: [0; 64],
+        entries: [b; 64],
+        count: 0,
+    }
+}
+
+// Whether a table is well formed.
+pub fn well_formed(t: RouteTable) -> bool
+    ensures { λ r. ⌜ r ≡ wellFormed t ⌝ }
+{
+    let n = t.count;
+    if 64 < n {
+        return false;
+    }
+    if !flat_map::rising(&t.keys, n) {
+        return false;
+    }
+    if !own_keys(t) {
+        return false;
+    }
+    if !flat_map::zero_from(&t.keys, n) {
+        return false;
+    }
+    blank_from(t)
+}
+
+// Where a destination stands among the keys, or where it would stand.
+fn place_of(t: RouteTable, destination: Nwk) -> Place
+    requires { ⌜ WellFormed t ⌝ }
+    ensures { λ r. ⌜ r ≡ placeOf (take (t .count) (t .keys)) (destination .0) ⌝ }
+{
+    flat_map::index_of(&t.keys, t.count, destination.0 as u64)
+}
+
+// The route to a destination.
+pub fn find(t: RouteTable, destination: Nwk) -> RouteLookup
+    requires { ⌜ WellFormed t ⌝ }
+    ensures { λ r. ⌜ r ≡ looked (lookup routeKey (destination .0) (rowsOf t)) ⌝ }
+{
+    let place = place_of(t, destination);
+    match place {
+        Place::Found(i) => {
+            let e = t.entries[i];
+            RouteLookup::Found(e)
+        }
+        Place::Missing(_) => RouteLookup::Missing,
+    }
+}
+
+// Whether there is room for a route to a destination: a free place, or one that it has already.
+pub fn has_room(t: RouteTable, destination: Nwk) -> bool
+    requires { ⌜ WellFormed t ⌝ }
+    ensures { λ r. ⌜ r ≡ leb (countWith routeKey (destination .0) (rowsOf t)) 64 ⌝ }
+{
+    let place = place_of(t, destination);
+    match place {
+        Place::Found(_) => true,
+        Place::Missing(_) => t.count < 64,
+    }
+}
+
+// The table with a route under its destination: over the one that is there, or in a free place.
+pub fn put(t: RouteTable, e: RouteEntry) -> RouteTable
+    requires { ⌜ WellFormed t × (countWith routeKey (routeKey e) (rowsOf t) ≤ 64) ⌝ }
+    ensures { λ r. ⌜ r ≡ tableOf (put routeKey e (rowsOf t)) ⌝ }
+{
+    let destination = e.destination;
+    let place = place_of(t, destination);
+    match place {
+        Place::Found(i) => set_at(t, i, e),
+        Place::Missing(i) => insert_at(t, i, destination.0 as u64, e),
+    }
+}
+
+// The table without the route to a destination.
+pub fn remove(t: RouteTable, destination: Nwk) -> RouteTable
+    requires { ⌜ WellFormed t ⌝ }
+    ensures { λ r. ⌜ r ≡ tableOf (remove routeKey (destination .0) (rowsOf t)) ⌝ }
+{
+    let place = place_of(t, destination);
+    match place {
+        Place::Found(i) => remove_at(t, i),
+        Place::Missing(_) => t,
+    }
+}
