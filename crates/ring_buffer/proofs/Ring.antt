@@ -15,7 +15,7 @@ use Rattle.standard.specs.Ring.{lastThree, pushed}
 use Rattle.standard.proofs.Median.{median-same, times-append}
 use Rattle.standard.proofs.Ring.{few-kept, cut-again}
 use Rattle.ring_buffer.specs.declared.RingBuffer.{RingBuffer}
-use Rattle.ring_buffer.specs.Ring.{fresh, afterPush, held, WellFormed}
+use Rattle.ring_buffer.specs.Ring.{fresh, afterPush, afterAll, held, WellFormed}
 use Rattle.ring_buffer.proofs.Shapes.{well, ring, by-shape}
 
 pub fresh-well-formed : WellFormed fresh
@@ -54,11 +54,6 @@ held-count =
     (λ a b c. refl)
     (λ a b c. refl)
     (λ a b c. refl)
-
--- the ring after a list of pushes, the first first
-abbrev pub afterAll : RingBuffer → List ℕ → RingBuffer
-afterAll r [] = r
-afterAll r (v ∷ vs) = afterAll (afterPush r v) vs
 
 all-held : (r : RingBuffer) (vs : List ℕ) → WellFormed r → held (afterAll r vs) ≡ lastThree (held r ++ vs)
 all-held r [] w = sym (ap lastThree (append-nil (held r)) ∙ few-kept (held r) (rw (held-count r w) (w .count)))

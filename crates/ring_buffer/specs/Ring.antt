@@ -20,6 +20,11 @@ afterPush r value = record {
   next = (r .next + 1) % 3;
 }
 
+-- the ring after a list of pushes, in their order
+abbrev pub afterAll : RingBuffer → List ℕ → RingBuffer
+afterAll r [] = r
+afterAll r (v ∷ vs) = afterAll (afterPush r v) vs
+
 -- the samples held, oldest first: a ring that is not full starts at the first place, and a full one at the next
 abbrev pub held : RingBuffer → List ℕ
 held r = cond (ltb (r .len) 3) (take (r .len) (r .values)) (drop (r .next) (r .values) ++ take (r .next) (r .values))
