@@ -1,2 +1,3 @@
 pub mod Tells
 pub mod Median
+pub mod Ring

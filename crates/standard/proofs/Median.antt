@@ -1,10 +1,10 @@
 -- A list has one order. Two ascending lists of the same numbers start with the same one, since the first of each is the least and
 -- stands in the other, and so on with their rests. `inOrder` finds that order by putting each element in at its place.
-use Prim.Native.Nat.{ℕ, suc, _≤_}
-use native.Mathlib.Nat.{le-refl, le-trans, le-antisymm, le-of-eq, le-of-lt, not-suc-le-zero}
+use Prim.Native.Nat.{ℕ, suc, _+_, _≤_}
+use native.Mathlib.Nat.{zero-add, le-trans, le-antisymm, le-of-eq, le-of-lt, not-suc-le-zero}
 use native.Mathlib.Omega.{arith}
 use mathlib.Core.Bool.{Bool, true, false, cond}
-use mathlib.Core.List.{List, [], _∷_}
+use mathlib.Core.List.{List, [], _∷_, _++_}
 use mathlib.Core.Path.{_≡_, refl, sym, ap, ap₂, _∙_}
 use borrow.Author.Tests.{eqb-true, eq-eqb, leb-true, leb-false}
 use lib.Dec.{eqb, leb}
@@ -48,6 +48,15 @@ one-order (x ∷ xs) (y ∷ ys) a b same = ap₂ _∷_ first (one-order xs ys (a
 pub ordered-one : (s q r : List ℕ) → Ordered s q → Ordered s r → q ≡ r
 ordered-one s q r a b = one-order q r (a .ascending) (b .ascending) (λ n. a .same n ∙ sym (b .same n))
 
+-- a list and another hold n as often as both together
+pub times-append : (n : ℕ) (r s : List ℕ) → times n (r ++ s) ≡ times n r + times n s
+times-append n [] s = sym (zero-add (times n s))
+times-append n (x ∷ r) s = either (eqb n x) (times-append n r s) where
+  either : (b : Bool) → times n (r ++ s) ≡ times n r + times n s
+      → cond b (suc (times n (r ++ s))) (times n (r ++ s)) ≡ cond b (suc (times n r)) (times n r) + times n s
+  either true e = omega arith
+  either false e = e
+
 put-first : (n x : ℕ) (ys : List ℕ) → n ≤ x → AtMostFirst n ys → AtMostFirst n (putIn x ys)
 put-first n x [] h f = h
 put-first n x (y ∷ ys) h f = either (leb x y) where
@@ -62,23 +71,29 @@ put-ascending x (y ∷ ys) a = either (leb x y) refl (put-ascending x ys (a .1))
   either true e rest = (leb-true x y e, a)
   either false e rest = (put-first y x ys (le-of-lt (leb-false x y e)) (a .0), rest)
 
--- the count does not go by which of two comes first
-swapped : (a b : Bool) (t : ℕ) → cond a (suc (cond b (suc t) t)) (cond b (suc t) t) ≡ cond b (suc (cond a (suc t) t)) (cond a (suc t) t)
-swapped true true t = refl
-swapped true false t = refl
-swapped false true t = refl
-swapped false false t = refl
+-- a count does not go by which of two comes first
+pub times-swap : (n x y : ℕ) (r : List ℕ) → times n (x ∷ y ∷ r) ≡ times n (y ∷ x ∷ r)
+times-swap n x y r = either (eqb n x) (eqb n y) (times n r) where
+  either : (a b : Bool) (t : ℕ) → cond a (suc (cond b (suc t) t)) (cond b (suc t) t) ≡ cond b (suc (cond a (suc t) t)) (cond a (suc t) t)
+  either true true t = refl
+  either true false t = refl
+  either false true t = refl
+  either false false t = refl
+
+-- with one more in front, two lists still hold n as often
+pub times-cons : (n x : ℕ) (r s : List ℕ) → times n r ≡ times n s → times n (x ∷ r) ≡ times n (x ∷ s)
+times-cons n x r s e = ap (λ (t : ℕ). cond (eqb n x) (suc t) t) e
 
 put-times : (n x : ℕ) (ys : List ℕ) → times n (putIn x ys) ≡ times n (x ∷ ys)
 put-times n x [] = refl
 put-times n x (y ∷ ys) = either (leb x y) (put-times n x ys) where
   either : (b : Bool) → times n (putIn x ys) ≡ times n (x ∷ ys) → times n (cond b (x ∷ y ∷ ys) (y ∷ putIn x ys)) ≡ times n (x ∷ y ∷ ys)
   either true e = refl
-  either false e = ap (λ (t : ℕ). cond (eqb n y) (suc t) t) e ∙ swapped (eqb n y) (eqb n x) (times n ys)
+  either false e = times-cons n y (putIn x ys) (x ∷ ys) e ∙ times-swap n y x ys
 
 order-times : (n : ℕ) (s : List ℕ) → times n (inOrder s) ≡ times n s
 order-times n [] = refl
-order-times n (x ∷ xs) = put-times n x (inOrder xs) ∙ ap (λ (t : ℕ). cond (eqb n x) (suc t) t) (order-times n xs)
+order-times n (x ∷ xs) = put-times n x (inOrder xs) ∙ times-cons n x (inOrder xs) xs (order-times n xs)
 
 order-ascending : (s : List ℕ) → Ascending (inOrder s)
 order-ascending [] = tt

@@ -54,3 +54,7 @@ tells-where {a = false} s t = yes-so (λ p. absurd (denied s refl p))
 -- the same fact in other words
 pub tells-so : {P Q : Type 0} {a : Bool} → (P → Q) → (Q → P) → Tells P a → Tells Q a
 tells-so there back t = record { fact = λ e. there (t .fact e); flag = λ q. t .flag (back q) }
+
+-- an answer tells that it is yes
+pub tells-true : (a : Bool) → Tells (a ≡ true) a
+tells-true a = record { fact = λ e. e; flag = λ e. e }

@@ -1,0 +1,2 @@
+pub mod P1
+pub mod P2

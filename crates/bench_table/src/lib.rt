@@ -1,0 +1,1 @@
+// Theorems only: the bench table of document 01, a file of proofs/ for each row.

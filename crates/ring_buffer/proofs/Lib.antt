@@ -1,0 +1,4 @@
+pub mod Sorting
+pub mod Zeros
+pub mod Shapes
+pub mod Ring

@@ -1,0 +1,132 @@
+// The last three link samples, and their median.
+ghost use Prim.Native.Nat.{_+_, _<_, min};
+ghost use mathlib.Core.Path.{_≡_};
+ghost use lib.Dec.{eqb};
+ghost use lib.ListN.{drop};
+ghost use Rattle.standard.specs.Median.{Ordered, medianOf};
+ghost use Rattle.standard.specs.Tells.{Tells};
+ghost use Rattle.ring_buffer.specs.Ring.{fresh, afterPush, allZero, WellFormed};
+ghost use Rattle.ring_buffer.specs.Exchange.{exchanged};
+
+// The last three values pushed. `len` of the places are in use, and the next push writes place `next`.
+pub struct RingBuffer {
+    pub values: [u8; 3],
+    pub len: u8,
+    pub next: u8,
+}
+
+impl RingBuffer {
+    pub fn new() -> RingBuffer
+        ensures { λ r. ⌜ r ≡ fresh ⌝ }
+    {
+        RingBuffer {
+            values: [0; 3],
+            len: 0,
+            next: 0,
+        }
+    }
+
+    // Writes the next place, which holds the oldest value once three are held. A place past the third counts round from the first.
+    pub fn push(self, value: u8) -> RingBuffer
+        ensures { λ r. ⌜ r ≡ afterPush self value ⌝ }
+    {
+        let at = self.next % 3;
+        let mut values = self.values;
+        values[at as usize] = value;
+        RingBuffer {
+            values,
+            len: one_more(self.len),
+            next: (at + 1) % 3,
+        }
+    }
+
+    pub fn len(self) -> usize
+        ensures { λ r. ⌜ r ≡ self .len ⌝ }
+    {
+        self.len as usize
+    }
+
+    pub fn is_full(self) -> bool
+        ensures { λ r. ⌜ r ≡ eqb (self .len) 3 ⌝ }
+    {
+        self.len == 3
+    }
+
+    // The three places, used or not.
+    pub fn values(self) -> [u8; 3]
+        ensures { λ r. ⌜ r ≡ self .values ⌝ }
+    {
+        self.values
+    }
+
+    // Whether the ring is one that pushes can make from a fresh one.
+    pub fn well_formed(self) -> bool
+        ensures { λ r. ⌜ Tells (WellFormed self) r ⌝ }
+    {
+        let len = self.len;
+        let next = self.next;
+        if len < 3 {
+            if next == len {
+                zero_from(&self.values, len as usize)
+            } else {
+                false
+            }
+        } else if len == 3 {
+            next < 3
+        } else {
+            false
+        }
+    }
+}
+
+// The count after a push, which stops at three.
+fn one_more(len: u8) -> u8
+    ensures { λ r. ⌜ r ≡ min (len + 1) 3 ⌝ }
+{
+    if len < 3 { len + 1 } else { 3 }
+}
+
+// Whether every value from the place `from` on is 0.
+fn zero_from(values: &[u8], from: usize) -> bool
+    ensures { λ r. ⌜ r ≡ allZero (drop from (now (values .entry))) ⌝ }
+{
+    let mut i = from;
+    while i < values.len() {
+        if values[i] != 0 {
+            return false;
+        }
+        i += 1;
+    }
+    true
+}
+
+// The samples with the one at `i` and the one after it in ascending order.
+fn exchange(samples: [u8; 3], i: usize) -> [u8; 3]
+    requires { ⌜ i < 2 ⌝ }
+    ensures { λ r. ⌜ r ≡ exchanged i samples ⌝ }
+{
+    let first = samples[i];
+    let second = samples[i + 1];
+    if first <= second {
+        return samples;
+    }
+    let mut swapped = samples;
+    swapped[i] = second;
+    swapped[i + 1] = first;
+    swapped
+}
+
+// The samples in ascending order: the greatest goes to the end, and then the first two are put in order.
+pub fn ordered(samples: [u8; 3]) -> [u8; 3]
+    ensures { λ r. ⌜ Ordered samples r ⌝ }
+{
+    exchange(exchange(exchange(samples, 0), 1), 0)
+}
+
+// The middle one of the samples in order: the link quality.
+pub fn median(samples: [u8; 3]) -> u8
+    ensures { λ r. ⌜ r ≡ medianOf samples ⌝ }
+{
+    let sorted = ordered(samples);
+    sorted[1]
+}
