@@ -5,3 +5,8 @@ pub mod Ring
 pub mod Median
 pub mod LinkCost
 pub mod Route
+pub mod Discovery
+pub mod Tables
+pub mod Reply
+pub mod Request
+pub mod Begin
