@@ -29,12 +29,13 @@ afterAll r (v ∷ vs) = afterAll (afterPush r v) vs
 abbrev pub held : RingBuffer → List ℕ
 held r = cond (ltb (r .len) 3) (take (r .len) (r .values)) (drop (r .next) (r .values) ++ take (r .next) (r .values))
 
+-- every number of a list is 0
 abbrev pub allZero : List ℕ → Bool
 allZero [] = true
 allZero (x ∷ xs) = eqb x 0 && allZero xs
 
 -- document 01, "Refusal numbers": "sample count at most 3, the next place equal to a count below 3 and any of 0 to 2 at count 3,
--- unused places blank"
+-- unused places blank". That there are three places is what the array's type gives
 pub record WellFormed (r : RingBuffer) : Type 0 where
   pub places : length (r .values) ≡ 3
   pub count : r .len ≤ 3

@@ -16,6 +16,7 @@ pub struct RingBuffer {
 }
 
 impl RingBuffer {
+    // No value held.
     pub fn new() -> RingBuffer
         ensures { λ r. ⌜ r ≡ fresh ⌝ }
     {
@@ -40,12 +41,14 @@ impl RingBuffer {
         }
     }
 
+    // How many values are held.
     pub fn len(self) -> usize
         ensures { λ r. ⌜ r ≡ self .len ⌝ }
     {
         self.len as usize
     }
 
+    // Whether three values are held.
     pub fn is_full(self) -> bool
         ensures { λ r. ⌜ r ≡ eqb (self .len) 3 ⌝ }
     {
@@ -59,7 +62,7 @@ impl RingBuffer {
         self.values
     }
 
-    // Whether the ring is one that pushes can make from a fresh one.
+    // Whether count, next place and unused places agree, as they do in every ring that pushes make from a new one.
     pub fn well_formed(self) -> bool
         ensures { λ r. ⌜ Tells (WellFormed self) r ⌝ }
     {

@@ -33,6 +33,7 @@ firstRadio =
     ∷ upTo 255 costs 1
     ∷ []
 
+-- the cost of a link by the first radio's scale
 abbrev pub linkCost : ℕ → ℕ
 linkCost quality = costIn firstRadio quality
 
@@ -45,7 +46,7 @@ abbrev pub FallsFrom : ℕ → List Band → Type 0
 FallsFrom limit [] = Unit {0}
 FallsFrom limit (b ∷ bs) = (1 ≤ b .cost) × (b .cost ≤ limit) × FallsFrom (b .cost) bs
 
--- the last band goes up to `top`
+-- the last band goes at least up to `top`
 abbrev pub Reaches : ℕ → List Band → Type 0
 Reaches top [] = ⊥
 Reaches top (b ∷ []) = top ≤ b .bound

@@ -3,6 +3,7 @@
 use Prim.Native.Nat.{_+_, _%_}
 use native.Mathlib.Omega.{arith}
 use mathlib.Core.Path.{_≡_}
+use lib.ListN.{set}
 use borrow.Author.Needs.{needs}
 use Rattle.ring_buffer.proofs.RingBuffer.push.Statement.{statement}
 use Rattle.ring_buffer.proofs.RingBuffer.push.Tie as tie
@@ -21,9 +22,13 @@ add-t10 c = search needs
 
 returns : tie.Need-returns
 returns c =
-    let ring = c .before .before .before .args .self in
-    let round : (ring .next % 3 + 1) % 3 ≡ (ring .next + 1) % 3 = omega arith in
-    cc
+    let a = c .before .before .before .args in
+    let round : (a .self .next % 3 + 1) % 3 ≡ (a .self .next + 1) % 3 = omega arith in
+    λ z. record {
+      values = set (a .self .values) (a .self .next % 3) (a .value);
+      len = c .one-more .ensures z;
+      next = round z;
+    }
 
 pub push-spec : {M : Type 1} → statement M
 push-spec = tie.close (tie.spec cast-values array-write-values one-more-requires add-t10 returns)
