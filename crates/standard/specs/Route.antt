@@ -138,3 +138,20 @@ decayed e =
 -- an Active route by a hop that is lost is Inactive
 abbrev pub unlinked : Nwk → RouteEntry → RouteEntry
 unlinked hop e = cond (isActive (e .status) && eqb (e .«next_hop_address» .0) (hop .0)) (withStatus Inactive e) e
+
+-- "relaying a source-routed frame proves the concentrator .. holds a route record", unless it keeps no route cache
+abbrev pub recordKnown : RouteEntry → RouteEntry
+recordKnown e =
+    cond (e .«no_route_cache») e
+    (record {
+      destination = e .destination;
+      status = e .status;
+      «no_route_cache» = e .«no_route_cache»;
+      «many_to_one» = e .«many_to_one»;
+      «route_record_required» = false;
+      expired = e .expired;
+      «next_hop_address» = e .«next_hop_address»;
+      «path_cost» = e .«path_cost»;
+      «total_usage_count» = e .«total_usage_count»;
+      «recent_activity» = e .«recent_activity»;
+    })
