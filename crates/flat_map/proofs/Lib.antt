@@ -8,3 +8,4 @@ pub mod Ordered
 pub mod Table
 pub mod WellFormed
 pub mod Query
+pub mod Fit
