@@ -11,7 +11,7 @@ use mathlib.Core.Path.{_≡_, refl, sym, ap, _∙_}
 use lib.ListN.{length, getD, take, drop, set, drop-of-length-le}
 use lib.Seq.{drop-cons}
 use Rattle.standard.specs.Ordered.{keep}
-use Rattle.standard.specs.Query.{first, someFits, countFits, changeFirst}
+use Rattle.standard.specs.Query.{first, someFits, countFits, changeFirst, entryAt}
 use Rattle.flat_map.specs.Rows.{pad}
 use Rattle.flat_map.specs.Table.{Formed}
 use Rattle.flat_map.proofs.Rows.{cons}
@@ -34,6 +34,29 @@ module _ {E : Type 0} (cap : ℕ) (keyOf : E → ℕ) (blank : E) (keys : List �
 
   pub no-row : count ≤ i → drop i (take count entries) ≡ []
   no-row h = rest-done (take count entries) i (omega (arith, rows-length cap keyOf blank keys entries count f))
+
+-- the entry at a place: the row there, or nothing from the count on
+module _ {E : Type 0} (d : E) where
+  pub entry-there : (xs : List E) (i : ℕ) → i < length xs → entryAt i xs ≡ some (getD xs i d)
+  unfolding entryAt
+  entry-there [] i h = absurd (not-suc-le-zero h)
+  entry-there (x ∷ xs) zero h = refl
+  entry-there (x ∷ xs) (suc i) h = entry-there xs i (le-of-suc-le-suc h)
+
+  pub entry-past : (xs : List E) (i : ℕ) → length xs ≤ i → entryAt i xs ≡ none
+  unfolding entryAt
+  entry-past [] i h = refl
+  entry-past (x ∷ xs) zero h = absurd (not-suc-le-zero h)
+  entry-past (x ∷ xs) (suc i) h = entry-past xs i (le-of-suc-le-suc h)
+
+module _ {E : Type 0} (cap : ℕ) (keyOf : E → ℕ) (blank : E) (keys : List ℕ) (entries : List E) (count : ℕ) (f : Formed cap keyOf blank keys entries count) (i : ℕ) where
+  pub entry-in-use : i < count → entryAt i (take count entries) ≡ some (getD entries i blank)
+  entry-in-use h =
+      entry-there blank (take count entries) i (omega (arith, rows-length cap keyOf blank keys entries count f))
+      ∙ ap some (sym (row-at cap keyOf blank keys entries count f i h))
+
+  pub entry-not-in-use : count ≤ i → entryAt i (take count entries) ≡ none
+  entry-not-in-use h = entry-past blank (take count entries) i (omega (arith, rows-length cap keyOf blank keys entries count f))
 
 -- each question over a list whose first row fits, or does not, or that is at its end
 module _ {E : Type 0} (fits : E → Bool) where

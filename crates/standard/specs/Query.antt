@@ -1,6 +1,6 @@
 -- Questions to rows, and a change of the first that fits: what the Rust writes as find, any, filter and count.
 -- Assumes nothing.
-use Prim.Native.Nat.{ℕ, suc}
+use Prim.Native.Nat.{ℕ, zero, suc}
 use mathlib.Core.Bool.{Bool, true, false, cond, _||_}
 use mathlib.Core.List.{List, [], _∷_}
 use mathlib.Core.Option.{Option, none, some}
@@ -25,3 +25,9 @@ module _ {E : Type 0} (fits : E → Bool) where
   unfoldable pub changeFirst : (E → E) → List E → List E
   changeFirst f [] = []
   changeFirst f (x ∷ xs) = cond (fits x) (f x ∷ xs) (x ∷ changeFirst f xs)
+
+-- the row at a place, and nothing from the count on
+unfoldable pub entryAt : {E : Type 0} → ℕ → List E → Option E
+entryAt i [] = none
+entryAt zero (x ∷ xs) = some x
+entryAt (suc i) (x ∷ xs) = entryAt i xs
