@@ -1,7 +1,10 @@
 -- The discovery table under the laws of flat_map: the test of the blank entry tells it, the test of the table tells
 -- well-formedness, and a table whose arrays hold rows is the table of these rows.
+use Prim.Native.Nat.{ℕ}
+use native.Mathlib.Omega.{arith}
 use mathlib.Core.List.{List}
-use mathlib.Core.Path.{_≡_, ap}
+use mathlib.Core.Option.{Option, none, some}
+use mathlib.Core.Path.{_≡_, refl, ap}
 use Rattle.standard.specs.Tells.{Tells}
 use Rattle.standard.specs.declared.DiscoveryEntry.{DiscoveryEntry}
 use Rattle.standard.specs.Discovery.{discoveryKey}
@@ -10,7 +13,8 @@ use Rattle.flat_map.proofs.Table.{view, fit, formed-rows, rows-back}
 use Rattle.flat_map.proofs.Told.{both-told, eq-told, told-as}
 use Rattle.flat_map.proofs.WellFormed.{formed-told}
 use Rattle.discovery_table.specs.declared.DiscoveryTable.{DiscoveryTable}
-use Rattle.discovery_table.specs.Table.{blankDiscovery, isBlank, WellFormed, wellFormed, rowsOf, tableOf}
+use Rattle.discovery_table.specs.declared.DiscoveryLookup.the-variants.{Found, Missing}
+use Rattle.discovery_table.specs.Table.{blankDiscovery, isBlank, WellFormed, wellFormed, rowsOf, tableOf, looked}
 
 -- the fields of the blank entry, in the test's order
 Cleared : DiscoveryEntry → Type 0
@@ -91,3 +95,12 @@ table-formed xs h = formed-rows 32 discoveryKey blankDiscovery xs h
 pub table-rows : (xs : List DiscoveryEntry) → Fit 32 discoveryKey blankDiscovery xs → rowsOf (tableOf xs) ≡ xs
 unfolding tableOf
 table-rows xs h = rows-back 32 discoveryKey blankDiscovery xs h
+
+-- a look-up's answer, read back
+pub looked-found : (o : Option DiscoveryEntry) (e : DiscoveryEntry) → Found e ≡ looked o → o ≡ some e
+looked-found none e q = absurd (let z : _≡_ {A = ℕ} 0 1 = cc in omega arith)
+looked-found (some x) e q = cc
+
+pub looked-missing : (o : Option DiscoveryEntry) → Missing ≡ looked o → o ≡ none
+looked-missing none q = refl
+looked-missing (some x) q = absurd (let z : _≡_ {A = ℕ} 0 1 = cc in omega arith)

@@ -3,6 +3,7 @@
 use Prim.Native.Nat.{ℕ}
 use mathlib.Core.Bool.{Bool, true, false, not, _&&_, false≢true, true≢false}
 use mathlib.Core.List.{List}
+use mathlib.Core.Option.{Option, none, some}
 use mathlib.Core.Path.{_≡_, refl, sym, ap, _∙_}
 use native.Mathlib.Omega.{arith}
 use lib.ListN.{length, take}
@@ -18,7 +19,8 @@ use Rattle.flat_map.proofs.Table.{view, fit, formed-rows, rows-back}
 use Rattle.flat_map.proofs.Told.{both-told, eq-told, told-as}
 use Rattle.flat_map.proofs.WellFormed.{formed-told}
 use Rattle.route_table.specs.declared.RouteTable.{RouteTable}
-use Rattle.route_table.specs.Table.{blankRoute, isBlank, WellFormed, wellFormed, rowsOf, tableOf}
+use Rattle.route_table.specs.declared.RouteLookup.the-variants.{Found, Missing}
+use Rattle.route_table.specs.Table.{blankRoute, isBlank, WellFormed, wellFormed, rowsOf, tableOf, looked}
 
 clear-told : (b : Bool) → Tells (b ≡ false) (not b)
 clear-told true = not-so (λ e. true≢false e)
@@ -127,3 +129,12 @@ table-formed xs h = formed-rows 64 routeKey blankRoute xs h
 pub table-rows : (xs : List RouteEntry) → Fit 64 routeKey blankRoute xs → rowsOf (tableOf xs) ≡ xs
 unfolding tableOf
 table-rows xs h = rows-back 64 routeKey blankRoute xs h
+
+-- a look-up's answer, read back
+pub looked-found : (o : Option RouteEntry) (e : RouteEntry) → Found e ≡ looked o → o ≡ some e
+looked-found none e q = absurd (let z : _≡_ {A = ℕ} 0 1 = cc in omega arith)
+looked-found (some x) e q = cc
+
+pub looked-missing : (o : Option RouteEntry) → Missing ≡ looked o → o ≡ none
+looked-missing none q = refl
+looked-missing (some x) q = absurd (let z : _≡_ {A = ℕ} 0 1 = cc in omega arith)
