@@ -51,12 +51,12 @@ abbrev pub established : Nwk → ℕ → DiscoveryEntry → RouteEntry → Table
 established sender cost d r t = record { disposition = Established; update = news sender cost r; tables = written sender cost d r t }
 
 -- another's: "Relay then lets the originator's route, made if absent, consider the discovery's sender and forward cost; only that can be a relay's update"
-abbrev pub relayedTo : Nwk → Nwk → ℕ → DiscoveryEntry → Tables → Replied
-relayedTo originator hop cost d t = record {
+abbrev pub relayedTo : Nwk → Nwk → ℕ → ℕ → Tables → Replied
+relayedTo originator hop cost forward t = record {
   disposition = Relay hop cost;
-  update = considering hop (d .«forward_cost») (routeOr originator (t .routes));
+  update = considering hop forward (routeOr originator (t .routes));
   tables = record {
-    routes = put routeKey (considered hop (d .«forward_cost») (routeOr originator (t .routes))) (t .routes);
+    routes = put routeKey (considered hop forward (routeOr originator (t .routes))) (t .routes);
     discoveries = t .discoveries;
   };
 }
@@ -72,7 +72,7 @@ replyOurs sender cost d r t = cond (dropOurs cost d r) (dropped t) (established 
 unfoldable pub replyTheirs : Nwk → Nwk → ℕ → DiscoveryEntry → RouteEntry → Tables → Replied
 replyTheirs originator sender cost d r t =
     cond (leb (d .«residual_cost») cost) (dropped t)
-    (relayedTo originator (d .«sender_address») cost d (written sender cost d r t))
+    (relayedTo originator (d .«sender_address») cost (d .«forward_cost») (written sender cost d r t))
 
 -- "No pair or no route to the responder: drop."
 unfoldable pub replyTo : Bool → Nwk → Nwk → ℕ → Tables → Option DiscoveryEntry → Option RouteEntry → Replied

@@ -1,0 +1,88 @@
+-- The rule's outcomes on tables by value: what is written fits, since it goes over rows that are there,
+-- and the originator's route fits exactly if there is room for it.
+use Prim.Native.Nat.{ℕ, _≤_}
+use mathlib.Core.Bool.{Bool, true, false, cond}
+use mathlib.Core.Option.{Option, none, some}
+use mathlib.Core.Path.{_≡_, refl, sym, ap, _∙_}
+use borrow.Author.Tests.{le-leb, leb-true}
+use lib.Dec.{leb}
+use lib.ListN.{length}
+use Rattle.types.specs.declared.Nwk.{Nwk}
+use Rattle.types.specs.declared.Refusal.the-variants.{RouteTableFull}
+use Rattle.standard.specs.declared.RouteEntry.{RouteEntry}
+use Rattle.standard.specs.declared.DiscoveryEntry.{DiscoveryEntry}
+use Rattle.standard.specs.declared.Update.{Update}
+use Rattle.standard.specs.declared.Update.the-variants.{Same}
+use Rattle.standard.specs.declared.RouteReplyDisposition.the-variants.{Drop, Established, Relay}
+use Rattle.standard.specs.Discovery.{discoveryKey}
+use Rattle.standard.specs.Ordered.{lookup, put, countWith}
+use Rattle.standard.specs.Reply.{Replied, dropped, settled, written, established, relayedTo}
+use Rattle.standard.specs.Route.{routeKey, routeOr, suits, via, considered}
+use Rattle.standard.specs.Tables.{Tables}
+use Rattle.flat_map.proofs.Fit.{fit-put, room-known}
+use Rattle.flat_map.proofs.Ordered.{length-put, lookup-key}
+use Rattle.route_table.specs.Table.{blankRoute}
+use Rattle.discovery_table.specs.Table.{blankDiscovery}
+use Rattle.search_tables.specs.declared.SearchTables.{SearchTables}
+use Rattle.search_tables.specs.Packed.{WellFormed, tablesOf, packed, Fits}
+use Rattle.search_tables.proofs.Packing.{search-view, search-fits, route-or-key}
+use Rattle.route_reply.specs.declared.ReplyAnswer.the-variants.{Refused, Answered}
+use Rattle.route_reply.specs.declared.ReplyStep.{ReplyStep}
+use Rattle.route_reply.specs.Answer.{Held, answered}
+
+-- an outcome by the room that its routes have
+pub answered-by : (t : SearchTables) (x : Replied) (b : Bool) → leb (length (x .tables .routes)) 64 ≡ b
+    → answered t x ≡ cond b (record { answer = Answered (x .disposition) (x .update); tables = packed (x .tables) }) (record { answer = Refused RouteTableFull; tables = t })
+unfolding answered
+answered-by t x b e = rw e
+
+-- one whose routes fit
+pub answered-good : (t : SearchTables) (x : Replied) → Fits (x .tables)
+    → answered t x ≡ record { answer = Answered (x .disposition) (x .update); tables = packed (x .tables) }
+answered-good t x f = answered-by t x true (le-leb (length (x .tables .routes)) 64 (f .routes .small))
+
+-- a candidate leaves the destination
+pub considered-key : (hop : Nwk) (cost : ℕ) (e : RouteEntry) → routeKey (considered hop cost e) ≡ routeKey e
+unfolding considered
+considered-key hop cost e = go (suits cost e) where
+  go : (b : Bool) → routeKey (cond b (via hop cost e) e) ≡ routeKey e
+  go true = refl
+  go false = refl
+
+module _ (t : SearchTables) (w : WellFormed t) where
+  pub dropped-is : _≡_ {A = ReplyStep} (record { answer = Answered Drop Same; tables = t }) (answered t (dropped (tablesOf t)))
+  dropped-is = sym (answered-good t (dropped (tablesOf t)) (search-fits t w) ∙ λ z. record { answer = Answered Drop Same; tables = sym (search-view t w) z })
+
+  module _ (d : DiscoveryEntry) (e : RouteEntry) (h : Held t d e) where
+    pub route-room : countWith routeKey (routeKey e) (tablesOf t .routes) ≤ 64
+    route-room = room-known 64 routeKey blankRoute (tablesOf t .routes) (search-fits t w .routes) (routeKey e) e (h .route)
+
+    pub discovery-room : countWith discoveryKey (discoveryKey d) (tablesOf t .discoveries) ≤ 32
+    discovery-room = room-known 32 discoveryKey blankDiscovery (tablesOf t .discoveries) (search-fits t w .discoveries) (discoveryKey d) d (h .discovery)
+
+    pub written-fits : (sender : Nwk) (cost : ℕ) → Fits (written sender cost d e (tablesOf t))
+    written-fits sender cost = record {
+      routes = fit-put 64 routeKey blankRoute (tablesOf t .routes) (search-fits t w .routes) (via sender cost e) route-room;
+      discoveries = fit-put 32 discoveryKey blankDiscovery (tablesOf t .discoveries) (search-fits t w .discoveries) (settled cost d) discovery-room;
+    }
+
+-- the originator's route after it considered a hop, in rows that fit
+module _ (t : Tables) (f : Fits t) (originator hop : Nwk) (forward : ℕ) where
+  after : RouteEntry
+  after = considered hop forward (routeOr originator (t .routes))
+
+  pub after-key : routeKey (considered hop forward (routeOr originator (t .routes))) ≡ originator .0
+  after-key = considered-key hop forward (routeOr originator (t .routes)) ∙ route-or-key originator t
+
+  pub after-length : length (put routeKey (considered hop forward (routeOr originator (t .routes))) (t .routes)) ≡ countWith routeKey (originator .0) (t .routes)
+  after-length =
+      length-put routeKey (considered hop forward (routeOr originator (t .routes))) (t .routes) (f .routes .ascending)
+      ∙ ap (λ (k : ℕ). countWith routeKey k (t .routes)) after-key
+
+-- what two look-ups found is held under its own key
+pub held-by : (t : SearchTables) (k j : ℕ) (d : DiscoveryEntry) (e : RouteEntry)
+    → lookup discoveryKey k (tablesOf t .discoveries) ≡ some d → lookup routeKey j (tablesOf t .routes) ≡ some e → Held t d e
+held-by t k j d e p q = record {
+  discovery = ap (λ (n : ℕ). lookup discoveryKey n (tablesOf t .discoveries)) (lookup-key discoveryKey k (tablesOf t .discoveries) d p) ∙ p;
+  route = ap (λ (n : ℕ). lookup routeKey n (tablesOf t .routes)) (lookup-key routeKey j (tablesOf t .routes) e q) ∙ q;
+}
