@@ -7,4 +7,6 @@ pub mod Rows
 pub mod Ordered
 pub mod Table
 pub mod WellFormed
+pub mod Change
+pub mod Fits
 pub mod Query

@@ -6,3 +6,4 @@ pub mod Median
 pub mod LinkCost
 pub mod Route
 pub mod Discovery
+pub mod Expiry
