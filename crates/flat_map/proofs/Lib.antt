@@ -9,4 +9,5 @@ pub mod Table
 pub mod WellFormed
 pub mod Change
 pub mod Fits
+pub mod Each
 pub mod Query

@@ -7,3 +7,4 @@ pub mod LinkCost
 pub mod Route
 pub mod Discovery
 pub mod Expiry
+pub mod Record
