@@ -7,5 +7,8 @@ pub mod Rows
 pub mod Ordered
 pub mod Table
 pub mod WellFormed
+pub mod Change
+pub mod Fits
+pub mod Each
 pub mod Query
 pub mod Fit

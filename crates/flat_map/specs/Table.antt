@@ -31,6 +31,11 @@ sameKeys [] (y ∷ ys) = false
 sameKeys (x ∷ xs) [] = false
 sameKeys (x ∷ xs) (y ∷ ys) = eqb x y && sameKeys xs ys
 
+-- each element has a property
+abbrev pub Each : {A : Type 0} → (A → Type 0) → List A → Type 0
+Each P [] = Unit {0}
+Each P (x ∷ xs) = P x × Each P xs
+
 -- every element passes a test
 abbrev pub every : {A : Type 0} → (A → Bool) → List A → Bool
 every p [] = true

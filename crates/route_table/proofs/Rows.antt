@@ -1,18 +1,20 @@
 -- The route table under the laws of flat_map: the test of the blank entry tells it, the test of the table tells
 -- well-formedness, and a table whose arrays hold rows is the table of these rows.
 use Prim.Native.Nat.{ℕ}
-use mathlib.Core.Bool.{Bool, true, false, not, _&&_, false≢true, true≢false}
+use mathlib.Core.Bool.{Bool, true, false, cond, not, _&&_, false≢true, true≢false}
 use mathlib.Core.List.{List}
 use mathlib.Core.Option.{Option, none, some}
 use mathlib.Core.Path.{_≡_, refl, sym, ap, _∙_}
 use native.Mathlib.Omega.{arith}
+use lib.Dec.{eqb}
 use lib.ListN.{length, take}
+use Rattle.types.specs.declared.Nwk.{Nwk}
 use Rattle.standard.specs.Tells.{Tells}
 use Rattle.standard.specs.declared.Status.{Status}
 use Rattle.standard.specs.declared.Status.the-variants.{Active, DiscoveryUnderway, DiscoveryFailed, Inactive}
 use Rattle.standard.specs.declared.RouteEntry.{RouteEntry}
 use Rattle.standard.specs.Ordered.{Ascending}
-use Rattle.standard.specs.Route.{isActive, routeKey}
+use Rattle.standard.specs.Route.{isActive, routeKey, decayed, unlinked}
 use Rattle.standard.proofs.Tells.{yes-so, not-so}
 use Rattle.flat_map.specs.Table.{Formed, Fit, Holds}
 use Rattle.flat_map.proofs.Table.{view, fit, formed-rows, rows-back}
@@ -130,6 +132,7 @@ pub table-rows : (xs : List RouteEntry) → Fit 64 routeKey blankRoute xs → ro
 unfolding tableOf
 table-rows xs h = rows-back 64 routeKey blankRoute xs h
 
+<<<<<<< HEAD
 -- a look-up's answer, read back
 pub looked-found : (o : Option RouteEntry) (e : RouteEntry) → Found e ≡ looked o → o ≡ some e
 looked-found none e q = absurd (let z : _≡_ {A = ℕ} 0 1 = cc in omega arith)
@@ -138,3 +141,15 @@ looked-found (some x) e q = cc
 pub looked-missing : (o : Option RouteEntry) → Missing ≡ looked o → o ≡ none
 looked-missing none q = refl
 looked-missing (some x) q = absurd (let z : _≡_ {A = ℕ} 0 1 = cc in omega arith)
+=======
+-- what decay and a lost hop change is not the key
+key-kept : (b : Bool) (x y : RouteEntry) → routeKey x ≡ routeKey y → routeKey (cond b x y) ≡ routeKey y
+key-kept true x y e = e
+key-kept false x y e = refl
+
+pub decayed-key : (e : RouteEntry) → routeKey (decayed e) ≡ routeKey e
+decayed-key e = key-kept (isActive (e .status)) _ e refl
+
+pub unlinked-key : (hop : Nwk) (e : RouteEntry) → routeKey (unlinked hop e) ≡ routeKey e
+unlinked-key hop e = key-kept (isActive (e .status) && eqb (e .«next_hop_address» .0) (hop .0)) _ e refl
+>>>>>>> bdd3af930ecf46f0896a45b4d02acb262b7afefa

@@ -4,13 +4,14 @@ use standard::RouteEntry;
 use standard::Status;
 use types::Nwk;
 ghost use mathlib.Core.Path.{_≡_};
-ghost use mathlib.Core.List.{[]};
+ghost use mathlib.Core.List.{[], map};
 ghost use Prim.Native.Nat.{_+_, _-_, _≤_, _<_};
 ghost use lib.Dec.{leb};
-ghost use lib.ListN.{take};
+ghost use lib.ListN.{length, take};
 ghost use Rattle.flat_map.specs.Seek.{placeOf};
 ghost use Rattle.standard.specs.Ordered.{lookup, put, remove, countWith};
-ghost use Rattle.standard.specs.Route.{isActive, routeKey};
+ghost use Rattle.standard.specs.Query.{entryAt};
+ghost use Rattle.standard.specs.Route.{isActive, routeKey, decayed, unlinked};
 ghost use Rattle.route_table.specs.Table.{blankRoute, isBlank, OwnKeys, BlankFrom, WellFormed, wellFormed, rowsOf, tableOf, inserted, replaced, removed, looked};
 ghost use Rattle.standard.specs.Tells.{Tells};
 
@@ -20,7 +21,7 @@ pub struct RouteTable {
     pub count: usize,
 }
 
-// What stands under a destination.
+// What stands under a destination, or in a place.
 pub enum RouteLookup {
     Found(RouteEntry),
     Missing,
@@ -136,7 +137,7 @@ fn set_at(t: RouteTable, i: usize, e: RouteEntry) -> RouteTable
 }
 
 // The entry at a place taken out, both arrays shifted left.
-fn remove_at(t: RouteTable, i: usize) -> RouteTable
+pub fn remove_at(t: RouteTable, i: usize) -> RouteTable
     requires { ⌜ (i < 64) × (0 < t .count) ⌝ }
     ensures { λ r. ⌜ r ≡ removed t i ⌝ }
 {
@@ -185,6 +186,26 @@ pub fn well_formed(t: RouteTable) -> bool
         return false;
     }
     blank_from(t)
+}
+
+// How many routes there are.
+pub fn count_of(t: RouteTable) -> usize
+    requires { ⌜ WellFormed t ⌝ }
+    ensures { λ r. ⌜ r ≡ length (rowsOf t) ⌝ }
+{
+    t.count
+}
+
+// The route at a place in the order, and nothing from the count on.
+pub fn entry_at(t: RouteTable, i: usize) -> RouteLookup
+    requires { ⌜ WellFormed t ⌝ }
+    ensures { λ r. ⌜ r ≡ looked (entryAt i (rowsOf t)) ⌝ }
+{
+    if t.count <= i {
+        return RouteLookup::Missing;
+    }
+    let e = t.entries[i];
+    RouteLookup::Found(e)
 }
 
 // Where a destination stands among the keys, or where it would stand.
@@ -245,4 +266,78 @@ pub fn remove(t: RouteTable, destination: Nwk) -> RouteTable
         Place::Found(i) => remove_at(t, i),
         Place::Missing(_) => t,
     }
+}
+
+// The recent activity of an Active route, one less.
+fn decayed_entry(e: RouteEntry) -> RouteEntry
+    ensures { λ r. ⌜ r ≡ decayed e ⌝ }
+{
+    let s = e.status;
+    if !is_active(s) {
+        return e;
+    }
+    let mut f = e;
+    f.recent_activity = types::saturating_sub_u8(e.recent_activity, 1);
+    f
+}
+
+// An Active route by a hop that is lost is Inactive.
+fn unlinked_entry(e: RouteEntry, hop: Nwk) -> RouteEntry
+    ensures { λ r. ⌜ r ≡ unlinked hop e ⌝ }
+{
+    let s = e.status;
+    if !is_active(s) {
+        return e;
+    }
+    if e.next_hop_address.0 != hop.0 {
+        return e;
+    }
+    let destination = e.destination;
+    let next_hop_address = e.next_hop_address;
+    RouteEntry {
+        destination,
+        status: Status::Inactive,
+        no_route_cache: e.no_route_cache,
+        many_to_one: e.many_to_one,
+        route_record_required: e.route_record_required,
+        expired: e.expired,
+        next_hop_address,
+        path_cost: e.path_cost,
+        total_usage_count: e.total_usage_count,
+        recent_activity: e.recent_activity,
+    }
+}
+
+// The recent activity of every Active route goes down by one.
+pub fn decay_activity(t: RouteTable) -> RouteTable
+    requires { ⌜ WellFormed t ⌝ }
+    ensures { λ r. ⌜ r ≡ tableOf (map decayed (rowsOf t)) ⌝ }
+{
+    let n = t.count;
+    let mut u = t;
+    let mut i: usize = 0;
+    while i < n {
+        let e = u.entries[i];
+        let f = decayed_entry(e);
+        u.entries[i] = f;
+        i += 1;
+    }
+    u
+}
+
+// Every Active route by a hop that is lost is Inactive.
+pub fn invalidate_via(t: RouteTable, hop: Nwk) -> RouteTable
+    requires { ⌜ WellFormed t ⌝ }
+    ensures { λ r. ⌜ r ≡ tableOf (map (unlinked hop) (rowsOf t)) ⌝ }
+{
+    let n = t.count;
+    let mut u = t;
+    let mut i: usize = 0;
+    while i < n {
+        let e = u.entries[i];
+        let f = unlinked_entry(e, hop);
+        u.entries[i] = f;
+        i += 1;
+    }
+    u
 }

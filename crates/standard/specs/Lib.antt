@@ -10,3 +10,5 @@ pub mod Tables
 pub mod Reply
 pub mod Request
 pub mod Begin
+pub mod Expiry
+pub mod Record

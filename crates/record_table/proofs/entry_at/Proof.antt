@@ -1,0 +1,30 @@
+-- Below the count stands the row of that place, and from the count on there is none.
+-- Assumes nothing.
+use mathlib.Core.Path.{sym, ap}
+use native.Mathlib.Omega.{arith}
+use Rattle.flat_map.proofs.Query.{entry-in-use, entry-not-in-use}
+use Rattle.standard.specs.Record.{recordKey}
+use Rattle.record_table.specs.Table.{blankRecord, looked}
+use Rattle.record_table.proofs.entry_at.Statement.{statement}
+use Rattle.record_table.proofs.entry_at.Tie as tie
+
+returns : tie.Need-returns
+returns c =
+    let s = c .before in
+    let t = s .args .t1 in
+    ap looked (sym (entry-not-in-use 64 recordKey blankRecord (t .keys) (t .entries) (t .count) (s .pre .formed) (s .args .i) (c .if1 .taken)))
+
+mul-e : tie.Need-mul-e
+mul-e c = omega (arith, c .before .pre .formed .small)
+
+element-copy-out-e : tie.Need-element-copy-out-e
+element-copy-out-e c = omega (arith, c .before .pre .formed .small)
+
+returns-2 : tie.Need-returns-2
+returns-2 c =
+    let s = c .before .before in
+    let t = s .args .t1 in
+    ap looked (sym (entry-in-use 64 recordKey blankRecord (t .keys) (t .entries) (t .count) (s .pre .formed) (s .args .i) (c .before .if1 .left)))
+
+pub entry-at-spec : {M : Type 1} → statement M
+entry-at-spec = tie.close (tie.spec returns mul-e element-copy-out-e returns-2)

@@ -1,0 +1,54 @@
+-- A key found among the keys names the row at its place; a key missing there has no row.
+-- Assumes nothing.
+use Prim.Native.Nat.{_<_}
+use mathlib.Core.Path.{sym, ap, _∙_}
+use native.Mathlib.Omega.{arith}
+use borrow.Author.Needs.{needs}
+use Rattle.flat_map.proofs.Table.{found-row, found-within, missing-row}
+use Rattle.standard.specs.Record.{recordKey}
+use Rattle.record_table.specs.Table.{blankRecord, looked}
+use Rattle.record_table.proofs.find.Statement.{statement}
+use Rattle.record_table.proofs.find.Tie as tie
+
+place-of-requires : tie.Need-place-of-requires
+place-of-requires c κs = c .pre
+
+enum-known-place : tie.Need-enum-known-place
+enum-known-place c = search needs
+
+within : (c : tie.After-place) → c .place .given .0 .0 < 64
+within c =
+    let s = c .before .before .before in
+    omega (arith, s .pre .formed .small, found-within 64 recordKey blankRecord (s .args .t1 .keys) (s .args .t1 .entries) (s .args .t1 .count) (s .pre .formed) _ _ (sym (c .place .given .1) ∙ c .before .before .place-of .ensures))
+
+mul-e : tie.Need-mul-e
+mul-e c = omega (arith, within (c .before))
+
+element-copy-out-e : tie.Need-element-copy-out-e
+element-copy-out-e c = within (c .before)
+
+enum-told : tie.Need-enum-told
+enum-told c = search needs
+
+returns : tie.Need-returns
+returns c =
+    let at = c .before .before in
+    let s = at .before .before .before in
+    ap looked (sym (found-row 64 recordKey blankRecord (s .args .t1 .keys) (s .args .t1 .entries) (s .args .t1 .count) (s .pre .formed) _ _ (sym (at .place .given .1) ∙ at .before .before .place-of .ensures)))
+
+returns-2 : tie.Need-returns-2
+returns-2 c =
+    let s = c .before .before .before in
+    ap looked (sym (missing-row 64 recordKey blankRecord (s .args .t1 .keys) (s .args .t1 .entries) (s .args .t1 .count) (s .pre .formed) _ _ (sym (c .enum-told .given .1) ∙ c .before .before .place-of .ensures)))
+
+pub find-spec : {M : Type 1} → statement M
+find-spec =
+    tie.close
+    (tie.spec
+    place-of-requires
+    enum-known-place
+    mul-e
+    element-copy-out-e
+    enum-told
+    returns
+    returns-2)

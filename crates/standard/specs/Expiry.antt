@@ -1,0 +1,28 @@
+-- What expiry leaves of the routes and the discoveries.
+-- Document 01, "Route rules": "Expiry removes every discovery with expiration at or before now. For each removed destination that no
+-- remaining discovery names, a DiscoveryUnderway route is removed."
+-- Assumes nothing.
+use Prim.Native.Nat.{ℕ}
+use mathlib.Core.Bool.{Bool, not, _&&_}
+use mathlib.Core.List.{List}
+use Rattle.standard.specs.declared.RouteEntry.{RouteEntry}
+use Rattle.standard.specs.declared.DiscoveryEntry.{DiscoveryEntry}
+use Rattle.standard.specs.Discovery.{live, names}
+use Rattle.standard.specs.Ordered.{keep}
+use Rattle.standard.specs.Query.{someFits}
+use Rattle.standard.specs.Route.{isUnderway, routeKey}
+
+-- the rows of both tables
+pub record Searches : Type 0 where
+  pub routes : List RouteEntry
+  pub discoveries : List DiscoveryEntry
+
+-- a route goes where it is underway, a discovery named its destination, and none that is left does
+abbrev pub stays : List DiscoveryEntry → List DiscoveryEntry → RouteEntry → Bool
+stays before left e = not (isUnderway (e .status) && (someFits (names (routeKey e)) before && not (someFits (names (routeKey e)) left)))
+
+unfoldable pub expired : ℕ → Searches → Searches
+expired now s = record {
+  routes = keep (stays (s .discoveries) (keep (live now) (s .discoveries))) (s .routes);
+  discoveries = keep (live now) (s .discoveries);
+}
