@@ -132,7 +132,6 @@ pub table-rows : (xs : List RouteEntry) → Fit 64 routeKey blankRoute xs → ro
 unfolding tableOf
 table-rows xs h = rows-back 64 routeKey blankRoute xs h
 
-<<<<<<< HEAD
 -- a look-up's answer, read back
 pub looked-found : (o : Option RouteEntry) (e : RouteEntry) → Found e ≡ looked o → o ≡ some e
 looked-found none e q = absurd (let z : _≡_ {A = ℕ} 0 1 = cc in omega arith)
@@ -141,7 +140,7 @@ looked-found (some x) e q = cc
 pub looked-missing : (o : Option RouteEntry) → Missing ≡ looked o → o ≡ none
 looked-missing none q = refl
 looked-missing (some x) q = absurd (let z : _≡_ {A = ℕ} 0 1 = cc in omega arith)
-=======
+
 -- what decay and a lost hop change is not the key
 key-kept : (b : Bool) (x y : RouteEntry) → routeKey x ≡ routeKey y → routeKey (cond b x y) ≡ routeKey y
 key-kept true x y e = e
@@ -152,4 +151,3 @@ decayed-key e = key-kept (isActive (e .status)) _ e refl
 
 pub unlinked-key : (hop : Nwk) (e : RouteEntry) → routeKey (unlinked hop e) ≡ routeKey e
 unlinked-key hop e = key-kept (isActive (e .status) && eqb (e .«next_hop_address» .0) (hop .0)) _ e refl
->>>>>>> bdd3af930ecf46f0896a45b4d02acb262b7afefa
