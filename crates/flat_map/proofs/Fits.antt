@@ -4,11 +4,12 @@ use Prim.Native.Nat.{ℕ, _≤_}
 use native.Mathlib.Omega.{arith}
 use mathlib.Core.Bool.{Bool, true, false, cond}
 use mathlib.Core.List.{List, [], _∷_, map}
+use mathlib.Core.Option.{some}
 use mathlib.Core.Path.{_≡_, refl}
 use lib.ListN.{length, length-map}
-use Rattle.standard.specs.Ordered.{put, countWith, remove, keep}
+use Rattle.standard.specs.Ordered.{lookup, put, countWith, remove, keep}
 use Rattle.flat_map.specs.Table.{Fit}
-use Rattle.flat_map.proofs.Ordered.{ascending-put, length-put, ascending-remove, length-remove, ascending-keep, length-keep, ascending-map}
+use Rattle.flat_map.proofs.Ordered.{ascending-put, length-put, count-with-found, ascending-remove, length-remove, ascending-keep, length-keep, ascending-map}
 use Rattle.flat_map.proofs.Rows.{cons}
 
 module _ {E : Type 0} (cap : ℕ) (keyOf : E → ℕ) (blank : E) (xs : List E) (h : Fit cap keyOf blank xs) where
@@ -17,6 +18,10 @@ module _ {E : Type 0} (cap : ℕ) (keyOf : E → ℕ) (blank : E) (xs : List E) 
     small = omega (arith, length-put keyOf e xs (h .ascending));
     ascending = ascending-put keyOf e xs (h .ascending);
   }
+
+  -- a row over one that is there wants no room
+  pub room-known : (k : ℕ) (d : E) → lookup keyOf k xs ≡ some d → countWith keyOf k xs ≤ cap
+  room-known k d e = omega (arith, count-with-found keyOf k d xs e, h .small)
 
   pub fit-remove : (k : ℕ) → Fit cap keyOf blank (remove keyOf k xs)
   fit-remove k = record { small = omega (arith, length-remove keyOf k xs, h .small); ascending = ascending-remove keyOf k xs (h .ascending) }

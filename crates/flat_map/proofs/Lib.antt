@@ -11,4 +11,3 @@ pub mod Change
 pub mod Fits
 pub mod Each
 pub mod Query
-pub mod Fit

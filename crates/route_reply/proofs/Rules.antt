@@ -19,7 +19,7 @@ use Rattle.standard.specs.Ordered.{lookup, put, countWith}
 use Rattle.standard.specs.Reply.{Replied, dropped, settled, written, established, relayedTo}
 use Rattle.standard.specs.Route.{routeKey, routeOr, suits, via, considered}
 use Rattle.standard.specs.Tables.{Tables}
-use Rattle.flat_map.proofs.Fit.{fit-put, room-known}
+use Rattle.flat_map.proofs.Fits.{fit-put, room-known}
 use Rattle.flat_map.proofs.Ordered.{length-put, lookup-key}
 use Rattle.route_table.specs.Table.{blankRoute}
 use Rattle.discovery_table.specs.Table.{blankDiscovery}

@@ -11,18 +11,14 @@ use Rattle.standard.specs.Discovery.{live, names}
 use Rattle.standard.specs.Ordered.{keep}
 use Rattle.standard.specs.Query.{someFits}
 use Rattle.standard.specs.Route.{isUnderway, routeKey}
-
--- the rows of both tables
-pub record Searches : Type 0 where
-  pub routes : List RouteEntry
-  pub discoveries : List DiscoveryEntry
+use Rattle.standard.specs.Tables.{Tables}
 
 -- a route goes where it is underway, a discovery named its destination, and none that is left does
 abbrev pub stays : List DiscoveryEntry → List DiscoveryEntry → RouteEntry → Bool
 stays before left e = not (isUnderway (e .status) && (someFits (names (routeKey e)) before && not (someFits (names (routeKey e)) left)))
 
-unfoldable pub expired : ℕ → Searches → Searches
-expired now s = record {
-  routes = keep (stays (s .discoveries) (keep (live now) (s .discoveries))) (s .routes);
-  discoveries = keep (live now) (s .discoveries);
+unfoldable pub expired : ℕ → Tables → Tables
+expired now t = record {
+  routes = keep (stays (t .discoveries) (keep (live now) (t .discoveries))) (t .routes);
+  discoveries = keep (live now) (t .discoveries);
 }

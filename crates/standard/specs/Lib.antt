@@ -7,8 +7,8 @@ pub mod LinkCost
 pub mod Route
 pub mod Discovery
 pub mod Tables
+pub mod Expiry
 pub mod Reply
 pub mod Request
 pub mod Begin
-pub mod Expiry
 pub mod Record
