@@ -13,16 +13,21 @@ use Rattle.standard.specs.Expiry.{Searches, stays, expired}
 use Rattle.standard.specs.Ordered.{keep}
 use Rattle.standard.specs.Query.{someFits}
 use Rattle.standard.specs.Route.{isUnderway, routeKey}
+use Rattle.route_table.specs.declared.RouteTable.{RouteTable}
 use Rattle.route_table.specs.Table as route
 use Rattle.route_table.proofs.Rows as route-rows
+use Rattle.discovery_table.specs.declared.DiscoveryTable.{DiscoveryTable}
 use Rattle.discovery_table.specs.Table as discovery
 use Rattle.discovery_table.proofs.Rows as discovery-rows
-use Rattle.expiry.specs.Packed.{packed}
+use Rattle.expiry.specs.Packed.{searches, packed}
 
 -- rows that the two tables can hold
 pub record SearchesFit (s : Searches) : Type 0 where
   pub routes : Fit 64 routeKey route.blankRoute (s .routes)
   pub discoveries : Fit 32 discoveryKey discovery.blankDiscovery (s .discoveries)
+
+pub searches-fit : (r : RouteTable) (d : DiscoveryTable) → route.WellFormed r → discovery.WellFormed d → SearchesFit (searches r d)
+searches-fit r d wr wd = record { routes = route-rows.table-fit r wr; discoveries = discovery-rows.table-fit d wd }
 
 pub expired-fit : (now : ℕ) (s : Searches) → SearchesFit s → SearchesFit (expired now s)
 unfolding expired
