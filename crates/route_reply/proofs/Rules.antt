@@ -20,12 +20,12 @@ use Rattle.standard.specs.Reply.{Replied, dropped, settled, written, establishe
 use Rattle.standard.specs.Route.{routeKey, routeOr, suits, via, considered}
 use Rattle.standard.specs.Tables.{Tables}
 use Rattle.flat_map.proofs.Fits.{fit-put, room-known}
-use Rattle.flat_map.proofs.Ordered.{length-put, lookup-key}
+use Rattle.flat_map.proofs.Ordered.{lookup-key}
 use Rattle.route_table.specs.Table.{blankRoute}
 use Rattle.discovery_table.specs.Table.{blankDiscovery}
 use Rattle.search_tables.specs.declared.SearchTables.{SearchTables}
 use Rattle.search_tables.specs.Packed.{WellFormed, tablesOf, packed, Fits}
-use Rattle.search_tables.proofs.Packing.{search-view, search-fits, route-or-key}
+use Rattle.search_tables.proofs.Packing.{search-view, search-fits, route-or-key, considered-key, routes-after}
 use Rattle.route_reply.specs.declared.ReplyAnswer.the-variants.{Refused, Answered}
 use Rattle.route_reply.specs.declared.ReplyStep.{ReplyStep}
 use Rattle.route_reply.specs.Answer.{Held, answered}
@@ -40,14 +40,6 @@ answered-by t x b e = rw e
 pub answered-good : (t : SearchTables) (x : Replied) → Fits (x .tables)
     → answered t x ≡ record { answer = Answered (x .disposition) (x .update); tables = packed (x .tables) }
 answered-good t x f = answered-by t x true (le-leb (length (x .tables .routes)) 64 (f .routes .small))
-
--- a candidate leaves the destination
-pub considered-key : (hop : Nwk) (cost : ℕ) (e : RouteEntry) → routeKey (considered hop cost e) ≡ routeKey e
-unfolding considered
-considered-key hop cost e = go (suits cost e) where
-  go : (b : Bool) → routeKey (cond b (via hop cost e) e) ≡ routeKey e
-  go true = refl
-  go false = refl
 
 module _ (t : SearchTables) (w : WellFormed t) where
   pub dropped-is : _≡_ {A = ReplyStep} (record { answer = Answered Drop Same; tables = t }) (answered t (dropped (tablesOf t)))
@@ -68,16 +60,11 @@ module _ (t : SearchTables) (w : WellFormed t) where
 
 -- the originator's route after it considered a hop, in rows that fit
 module _ (t : Tables) (f : Fits t) (originator hop : Nwk) (forward : ℕ) where
-  after : RouteEntry
-  after = considered hop forward (routeOr originator (t .routes))
-
   pub after-key : routeKey (considered hop forward (routeOr originator (t .routes))) ≡ originator .0
   after-key = considered-key hop forward (routeOr originator (t .routes)) ∙ route-or-key originator t
 
   pub after-length : length (put routeKey (considered hop forward (routeOr originator (t .routes))) (t .routes)) ≡ countWith routeKey (originator .0) (t .routes)
-  after-length =
-      length-put routeKey (considered hop forward (routeOr originator (t .routes))) (t .routes) (f .routes .ascending)
-      ∙ ap (λ (k : ℕ). countWith routeKey k (t .routes)) after-key
+  after-length = routes-after t f (originator .0) (considered hop forward (routeOr originator (t .routes))) after-key
 
 -- what two look-ups found is held under its own key
 pub held-by : (t : SearchTables) (k j : ℕ) (d : DiscoveryEntry) (e : RouteEntry)

@@ -36,7 +36,16 @@ fn refuse(old: SearchTables, why: Refusal) -> RequestStep
 }
 
 // The discovery is stored, then the originator's route considers the sender. `old` is what a refusal hands back.
-fn accept(old: SearchTables, t: SearchTables, d: DiscoveryEntry, originator: Nwk, id: u8, sender: Nwk, cost: u8, many_to_one: ManyToOne) -> RequestStep
+fn accept(
+    old: SearchTables,
+    t: SearchTables,
+    d: DiscoveryEntry,
+    originator: Nwk,
+    id: u8,
+    sender: Nwk,
+    cost: u8,
+    many_to_one: ManyToOne,
+) -> RequestStep
     requires { ⌜ WellFormed t × InKey d originator id ⌝ }
     ensures { λ r. ⌜ r ≡ answered old (accepting originator sender cost «many_to_one» d (tablesOf t)) ⌝ }
 {
@@ -62,7 +71,17 @@ fn accept(old: SearchTables, t: SearchTables, d: DiscoveryEntry, originator: Nwk
 }
 
 // A pair that is known: a dearer request is not accepted, and nothing else happens.
-fn request_known(old: SearchTables, t: SearchTables, d: DiscoveryEntry, originator: Nwk, id: u8, destination: Nwk, sender: Nwk, cost: u8, many_to_one: ManyToOne) -> RequestStep
+fn request_known(
+    old: SearchTables,
+    t: SearchTables,
+    d: DiscoveryEntry,
+    originator: Nwk,
+    id: u8,
+    destination: Nwk,
+    sender: Nwk,
+    cost: u8,
+    many_to_one: ManyToOne,
+) -> RequestStep
     requires { ⌜ WellFormed t × InKey d originator id ⌝ }
     ensures { λ r. ⌜ r ≡ answered old (requestTo originator id destination sender cost «many_to_one» 0 (tablesOf t) (some d)) ⌝ }
 {
@@ -72,18 +91,45 @@ fn request_known(old: SearchTables, t: SearchTables, d: DiscoveryEntry, originat
             tables: t,
         };
     }
-    accept(old, t, discovery_entry::reached(d, sender, cost), originator, id, sender, cost, many_to_one)
+    accept(
+        old,
+        t,
+        discovery_entry::reached(d, sender, cost),
+        originator,
+        id,
+        sender,
+        cost,
+        many_to_one,
+    )
 }
 
 // A pair that is new: its discovery expires `span` after `now`.
-fn request_new(old: SearchTables, t: SearchTables, originator: Nwk, id: u8, destination: Nwk, sender: Nwk, cost: u8, many_to_one: ManyToOne, now: u64, span: u64) -> RequestStep
+fn request_new(
+    old: SearchTables,
+    t: SearchTables,
+    originator: Nwk,
+    id: u8,
+    destination: Nwk,
+    sender: Nwk,
+    cost: u8,
+    many_to_one: ManyToOne,
+    now: u64,
+    span: u64,
+) -> RequestStep
     requires { ⌜ WellFormed t ⌝ }
     ensures { λ r. ⌜ r ≡ byTime old (timeSum now span) (λ expires. requestTo originator id destination sender cost «many_to_one» expires (tablesOf t) none) ⌝ }
 {
     let sum = types::time_sum(now, span);
     match sum {
         Sum::At(expires) => {
-            let d = discovery_entry::new_discovery(originator, id, sender, cost, expires, destination);
+            let d = discovery_entry::new_discovery(
+                originator,
+                id,
+                sender,
+                cost,
+                expires,
+                destination,
+            );
             accept(old, t, d, originator, id, sender, cost, many_to_one)
         }
         Sum::Past => refuse(old, Refusal::TimePastEnd),
@@ -91,23 +137,76 @@ fn request_new(old: SearchTables, t: SearchTables, originator: Nwk, id: u8, dest
 }
 
 // A request, on tables whose expiry is done.
-fn request_on(old: SearchTables, t: SearchTables, originator: Nwk, id: u8, destination: Nwk, sender: Nwk, cost: u8, many_to_one: ManyToOne, now: u64, span: u64) -> RequestStep
+fn request_on(
+    old: SearchTables,
+    t: SearchTables,
+    originator: Nwk,
+    id: u8,
+    destination: Nwk,
+    sender: Nwk,
+    cost: u8,
+    many_to_one: ManyToOne,
+    now: u64,
+    span: u64,
+) -> RequestStep
     requires { ⌜ WellFormed t ⌝ }
     ensures { λ r. ⌜ r ≡ requestedOn old originator id destination sender cost «many_to_one» now span (tablesOf t) ⌝ }
 {
     let discoveries = t.discoveries;
     let found = discovery_table::find(discoveries, originator, id);
     match found {
-        DiscoveryLookup::Found(d) => request_known(old, t, d, originator, id, destination, sender, cost, many_to_one),
-        DiscoveryLookup::Missing => request_new(old, t, originator, id, destination, sender, cost, many_to_one, now, span),
+        DiscoveryLookup::Found(d) => request_known(
+            old,
+            t,
+            d,
+            originator,
+            id,
+            destination,
+            sender,
+            cost,
+            many_to_one,
+        ),
+        DiscoveryLookup::Missing => request_new(
+            old,
+            t,
+            originator,
+            id,
+            destination,
+            sender,
+            cost,
+            many_to_one,
+            now,
+            span,
+        ),
     }
 }
 
 // A request of the search (originator, id) for a destination, heard from a sender at a cost.
-pub fn request(t: SearchTables, originator: Nwk, id: u8, destination: Nwk, sender: Nwk, cost: u8, many_to_one: ManyToOne, now: u64, span: u64) -> RequestStep
+pub fn request(
+    t: SearchTables,
+    originator: Nwk,
+    id: u8,
+    destination: Nwk,
+    sender: Nwk,
+    cost: u8,
+    many_to_one: ManyToOne,
+    now: u64,
+    span: u64,
+) -> RequestStep
     requires { ⌜ WellFormed t ⌝ }
     ensures { λ r. ⌜ r ≡ requested t originator id destination sender cost «many_to_one» now span ⌝ }
 {
     let left = expiry::expire(t, now);
-    request_on(t, left, originator, id, destination, sender, cost, many_to_one, now, span)
+    request_on(
+        t,
+        left,
+        originator,
+        id,
+        destination,
+        sender,
+        cost,
+        many_to_one,
+        now,
+        span,
+    )
 }

@@ -1,69 +1,106 @@
+-- Room in the routes and then in the discoveries decides refusal or answer; with both, each put is the rule's.
+-- Assumes nothing.
+use mathlib.Core.Bool.{true, false}
+use mathlib.Core.Path.{_≡_, refl, sym, _∙_}
 use borrow.Author.Needs.{needs}
+use borrow.Author.Tests.{not-true, not-false, leb-true}
+use lib.Dec.{leb}
+use Rattle.standard.specs.Discovery.{pairKey, discoveryKey}
+use Rattle.standard.specs.Ordered.{countWith}
+use Rattle.standard.specs.Request.{accepting}
+use Rattle.standard.specs.Route.{routeKey}
+use Rattle.search_tables.specs.Packed.{tablesOf}
+use Rattle.search_tables.proofs.Packing.{search-fits}
+use Rattle.route_request.proofs.Rules.{answered-by, route-key, routes-room, discoveries-room}
 use Rattle.route_request.proofs.accept.Statement.{statement}
 use Rattle.route_request.proofs.accept.Tie as tie
-use Rattle.route_request.proofs.accept.Reads as reads
-use Rattle.route_request.proofs.accept.Lts as lts
-use Rattle.discovery_table.proofs.has_room.Reads as has-room-reads
-use Rattle.discovery_table.proofs.put.Reads as put-reads
-use Rattle.route_entry.proofs.considered.Reads as considered-reads
-use Rattle.route_entry.proofs.considering.Reads as considering-reads
-use Rattle.route_entry.proofs.flagged.Reads as flagged-reads
-use Rattle.route_request.proofs.refuse.Reads as refuse-reads
-use Rattle.route_table.proofs.has_room.Reads as has-room-reads′
-use Rattle.route_table.proofs.put.Reads as put-reads′
-use Rattle.search_tables.proofs.route_or.Reads as route-or-reads
 
--- src/lib.rt:45:9
 has-room-requires : tie.Need-has-room-requires
-has-room-requires c κs = search needs
+has-room-requires c κs = c .before .before .pre .0 .routes
 
--- src/lib.rt:46:9
 refuse-requires : tie.Need-refuse-requires
 refuse-requires c κs = search needs
 
--- src/lib.rt:46:9
 returns : tie.Need-returns
-returns c = search needs
+returns c =
+    let s = c .before .before .before .before .before in
+    let a = s .args in
+    let x = accepting (a .originator) (a .sender) (a .cost) (a .many-to-one) (a .d) (tablesOf (a .t)) in
+    c .refuse .ensures
+    ∙ sym (answered-by (a .old) x false _
+    (routes-room (tablesOf (a .t)) (search-fits (a .t) (s .pre .0)) (a .originator) (a .id) (a .sender) (a .cost) (a .many-to-one) (a .d) (s .pre .1)
+    ∙ sym (c .before .before .has-room .ensures) ∙ not-true _ (c .before .if1 .taken)) refl)
 
--- src/lib.rt:48:9
 has-room-requires-2 : tie.Need-has-room-requires-2
-has-room-requires-2 c κs = search needs
+has-room-requires-2 c κs = c .before .before .before .before .pre .0 .discoveries
 
--- src/lib.rt:49:9
 refuse-requires-2 : tie.Need-refuse-requires-2
 refuse-requires-2 c κs = search needs
 
--- src/lib.rt:49:9
+-- what the two tests showed
+routes-free : (c : tie.Else1) → let a = c .before .before .before .before .args in leb (countWith routeKey (a .originator .0) (tablesOf (a .t) .routes)) 64 ≡ true
+routes-free c = sym (c .before .has-room .ensures) ∙ not-false _ (c .if1 .left)
+
+discoveries-free : (c : tie.Else2) → let a = c .before .before .before .before .before .before .args in leb (countWith discoveryKey (pairKey (a .originator) (a .id)) (tablesOf (a .t) .discoveries)) 32 ≡ true
+discoveries-free c = sym (c .before .has-room2 .ensures) ∙ not-false _ (c .if2 .left)
+
 returns-2 : tie.Need-returns-2
-returns-2 c = search needs
+returns-2 c =
+    let at = c .before .before .before in
+    let s = at .before .before .before .before in
+    let a = s .args in
+    let f = search-fits (a .t) (s .pre .0) in
+    let x = accepting (a .originator) (a .sender) (a .cost) (a .many-to-one) (a .d) (tablesOf (a .t)) in
+    c .refuse2 .ensures
+    ∙ sym (answered-by (a .old) x true false
+    (routes-room (tablesOf (a .t)) f (a .originator) (a .id) (a .sender) (a .cost) (a .many-to-one) (a .d) (s .pre .1) ∙ routes-free at)
+    (discoveries-room (tablesOf (a .t)) f (a .originator) (a .id) (a .sender) (a .cost) (a .many-to-one) (a .d) (s .pre .1)
+    ∙ sym (c .before .before .has-room2 .ensures) ∙ not-true _ (c .before .if2 .taken)))
 
--- src/lib.rt:51:9
 route-or-requires : tie.Need-route-or-requires
-route-or-requires c κs = search needs
+route-or-requires c κs = c .before .before .before .before .before .before .pre .0 .routes
 
--- src/lib.rt:52:34
 considered-requires : tie.Need-considered-requires
 considered-requires c κs = search needs
 
--- src/lib.rt:52:9
 flagged-requires : tie.Need-flagged-requires
 flagged-requires c κs = search needs
 
--- src/lib.rt:53:9
 put-requires : tie.Need-put-requires
-put-requires c κs = search needs
+put-requires c κs =
+    let at = c .before .before .before in
+    let s = at .before .before .before .before .before .before in
+    let a = s .args in (
+      s .pre .0 .routes,
+      rw (
+        c .flagged .ensures,
+        c .before .considered .ensures,
+        c .before .before .route-or .ensures,
+        route-key (tablesOf (a .t)) (search-fits (a .t) (s .pre .0)) (a .originator) (a .id) (a .sender) (a .cost) (a .many-to-one) (a .d) (s .pre .1),
+      )
+          (leb-true _ 64 (routes-free (at .before .before))),
+    )
 
--- src/lib.rt:54:9
 put-requires-2 : tie.Need-put-requires-2
-put-requires-2 c κs = search needs
+put-requires-2 c κs =
+    let at = c .before .before .before .before in
+    let s = at .before .before .before .before .before .before in
+    (s .pre .0 .discoveries, rw (s .pre .1) (leb-true _ 32 (discoveries-free at)))
 
--- src/lib.rt:56:47
 considering-requires : tie.Need-considering-requires
 considering-requires c κs = search needs
 
--- src/lib.rt:39:1
 returns-3 : tie.Need-returns-3
-returns-3 c = search needs
+returns-3 c =
+    let at = c .before .before .before .before .before .before in
+    let s = at .before .before .before .before .before .before in
+    let a = s .args in
+    let f = search-fits (a .t) (s .pre .0) in
+    let x = accepting (a .originator) (a .sender) (a .cost) (a .many-to-one) (a .d) (tablesOf (a .t)) in
+    rw (c .considering .ensures, c .before .put2 .ensures, c .before .before .put .ensures, c .before .before .before .flagged .ensures, c .before .before .before .before .considered .ensures, c .before .before .before .before .before .route-or .ensures)
+    (sym (answered-by (a .old) x true true
+    (routes-room (tablesOf (a .t)) f (a .originator) (a .id) (a .sender) (a .cost) (a .many-to-one) (a .d) (s .pre .1) ∙ routes-free (at .before .before))
+    (discoveries-room (tablesOf (a .t)) f (a .originator) (a .id) (a .sender) (a .cost) (a .many-to-one) (a .d) (s .pre .1) ∙ discoveries-free at)))
 
 pub accept-spec : {M : Type 1} → statement M
 accept-spec =

@@ -1,26 +1,29 @@
+-- The test is the rule's; what a better request stores stands under the same pair.
+-- Assumes nothing.
 use borrow.Author.Needs.{needs}
+use borrow.Author.Tests.{lt-ltb, le-ltb}
+use Rattle.standard.specs.Request.{requestTo}
+use Rattle.route_request.proofs.Rules.{unaccepted-is}
 use Rattle.route_request.proofs.request_known.Statement.{statement}
 use Rattle.route_request.proofs.request_known.Tie as tie
-use Rattle.route_request.proofs.request_known.Reads as reads
-use Rattle.route_request.proofs.request_known.Lts as lts
-use Rattle.discovery_entry.proofs.reached.Reads as reached-reads
-use Rattle.route_request.proofs.accept.Reads as accept-reads
 
--- src/lib.rt:70:9
 returns : tie.Need-returns
-returns c = search needs
+unfolding requestTo
+returns c =
+    let s = c .before .before in
+    rw (lt-ltb _ _ (c .if1 .taken)) (unaccepted-is (s .args .old) (s .args .t) (s .pre .0))
 
--- src/lib.rt:75:20
 reached-requires : tie.Need-reached-requires
 reached-requires c κs = search needs
 
--- src/lib.rt:75:5
 accept-requires : tie.Need-accept-requires
-accept-requires c κs = search needs
+accept-requires c κs =
+    let s = c .before .before .before in
+    (s .pre .0, rw (c .reached .ensures) (s .pre .1))
 
--- src/lib.rt:65:1
 returns-2 : tie.Need-returns-2
-returns-2 c = search needs
+unfolding requestTo
+returns-2 c = rw (c .accept .ensures, c .before .reached .ensures, le-ltb _ _ (c .before .before .if1 .left))
 
 pub request-known-spec : {M : Type 1} → statement M
 request-known-spec = tie.close (tie.spec returns reached-requires accept-requires returns-2)
