@@ -15,7 +15,9 @@ use Rattle.standard.specs.Route.{isUnderway, routeKey}
 use Rattle.standard.specs.Tables.{Tables}
 use Rattle.route_table.specs.Table as route
 use Rattle.discovery_table.specs.Table as discovery
-use Rattle.search_tables.specs.Packed.{Fits}
+use Rattle.search_tables.specs.declared.SearchTables.{SearchTables}
+use Rattle.search_tables.specs.Packed.{WellFormed, tablesOf, packed, Fits}
+use Rattle.search_tables.proofs.Packing.{search-fits, packed-formed, packed-rows}
 
 pub expired-fits : (now : ℕ) (t : Tables) → Fits t → Fits (expired now t)
 unfolding expired
@@ -39,3 +41,11 @@ nothing-over now t e = λ z. record { routes = whole z; discoveries = e z } wher
   whole =
       ap (λ (left : List DiscoveryEntry). keep (stays (t .discoveries) left) (t .routes)) e
       ∙ keep-every (stays (t .discoveries) (t .discoveries)) (waits-on (t .discoveries)) (t .routes)
+
+-- of the tables that the expiry leaves: they are well formed, and their rows are the definition's
+module _ (now : ℕ) (t : SearchTables) (w : WellFormed t) (left : SearchTables) (is : left ≡ packed (expired now (tablesOf t))) where
+  pub left-formed : WellFormed left
+  left-formed = rw is (packed-formed (expired now (tablesOf t)) (expired-fits now (tablesOf t) (search-fits t w)))
+
+  pub left-rows : tablesOf left ≡ expired now (tablesOf t)
+  left-rows = ap tablesOf is ∙ packed-rows (expired now (tablesOf t)) (expired-fits now (tablesOf t) (search-fits t w))
