@@ -1,0 +1,4 @@
+pub mod Streams
+pub mod Conditions
+pub mod Exactly
+pub mod Steps
