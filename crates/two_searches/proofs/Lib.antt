@@ -1,2 +1,5 @@
 pub mod Steps
 pub mod Packed
+pub mod Puts
+pub mod Touch
+pub mod Merged
