@@ -3,3 +3,4 @@ pub mod Packed
 pub mod Puts
 pub mod Touch
 pub mod Merged
+pub mod Rule

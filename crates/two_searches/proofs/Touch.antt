@@ -20,7 +20,7 @@ use Rattle.standard.specs.Tables.{Tables}
 use Rattle.standard.specs.Reply.{Replied, settled, dropOurs, replyOurs, replyTheirs, replyTo, reply}
 use Rattle.flat_map.proofs.Ordered.{lookup-key}
 use Rattle.two_searches.specs.Streams.{Search, Heard, Answer, told, hear}
-use Rattle.two_searches.specs.Conditions.{searchKey}
+use Rattle.two_searches.specs.Conditions.{searchKey, HeldAs, RouteTo}
 use Rattle.two_searches.specs.Exactly.{dropAnswer}
 use Rattle.two_searches.proofs.Puts.{puts, Within, lookup-put}
 
@@ -49,30 +49,38 @@ view own s t = record {
 }
 
 -- the originator's route as a relay finds it: the responder's, just written, if they are one
-abbrev found : Search → RouteEntry → Option RouteEntry → RouteEntry
+abbrev pub found : Search → RouteEntry → Option RouteEntry → RouteEntry
 found s r o = Option·getD (cond (eqb (routeKey r) (s .originator .0)) (some r) o) (newRoute (s .originator) Inactive unknownHop)
 
-abbrev leaves : Answer × Change
+abbrev pub leaves : Answer × Change
 leaves = (dropAnswer, record { routes = []; discoveries = [] })
 
-abbrev establishing : Heard → DiscoveryEntry → RouteEntry → Answer × Change
+abbrev pub establishing : Heard → DiscoveryEntry → RouteEntry → Answer × Change
 establishing x d r = (
   record { disposition = Established; update = news (x .sender) (x .cost) r },
   record { routes = via (x .sender) (x .cost) r ∷ []; discoveries = settled (x .cost) d ∷ [] },
 )
 
-abbrev relaying : Heard → DiscoveryEntry → RouteEntry → RouteEntry → Answer × Change
+abbrev pub relaying : Heard → DiscoveryEntry → RouteEntry → RouteEntry → Answer × Change
 relaying x d r o = (
   record { disposition = Relay (d .«sender_address») (x .cost); update = considering (d .«sender_address») (d .«forward_cost») o },
   record { routes = via (x .sender) (x .cost) r ∷ considered (d .«sender_address») (d .«forward_cost») o ∷ []; discoveries = settled (x .cost) d ∷ [] },
 )
 
+-- the test by which a reply is dropped
+abbrev pub drops : Bool → Heard → DiscoveryEntry → RouteEntry → Bool
+drops true x d r = dropOurs (x .cost) d r
+drops false x d r = leb (d .«residual_cost») (x .cost)
+
+-- what is done otherwise
+abbrev pub taking : Bool → Search → Heard → DiscoveryEntry → RouteEntry → Option RouteEntry → Answer × Change
+taking true s x d r o = establishing x d r
+taking false s x d r o = relaying x d r (found s (via (x .sender) (x .cost) r) o)
+
 abbrev decideOn : Bool → Search → Heard → Option DiscoveryEntry → Option RouteEntry → Option RouteEntry → Answer × Change
 decideOn ours s x none r o = leaves
 decideOn ours s x (some d) none o = leaves
-decideOn true s x (some d) (some r) o = cond (dropOurs (x .cost) d r) leaves (establishing x d r)
-decideOn false s x (some d) (some r) o =
-    cond (leb (d .«residual_cost») (x .cost)) leaves (relaying x d r (found s (via (x .sender) (x .cost) r) o))
+decideOn ours s x (some d) (some r) o = cond (drops ours x d r) leaves (taking ours s x d r o)
 
 -- the answer and the rows to put, by the rows read
 pub decide : Nwk → Search → Heard → View → Answer × Change
@@ -99,6 +107,12 @@ hear-is own s x t =
     go true (some d) (some r) = told-cond (dropOurs (x .cost) d r) t _ _ leaves (establishing x d r) refl refl
     go false (some d) (some r) = told-cond (leb (d .«residual_cost») (x .cost)) t _ _ leaves _ refl (rw lookup-put)
 
+-- a reply to a search that is held, whose responder has a route
+pub hear-held : (own : Nwk) (s : Search) (x : Heard) (t : Tables) (d : DiscoveryEntry) (r : RouteEntry) → HeldAs s d t → RouteTo (s .responder) r t
+    → hear own s x t ≡ carried (cond (drops (isOurs own s) x d r) leaves (taking (isOurs own s) s x d r (view own s t .originator))) t
+unfolding decide
+hear-held own s x t d r h k = hear-is own s x t ∙ rw (h, k)
+
 -- the keys of the routes that a search writes: the responder, and a foreign originator
 abbrev pub RouteKeys : Nwk → Search → ℕ → Type 0
 RouteKeys own s k = (k ≡ s .responder .0) ⊎ ((k ≡ s .originator .0) × (s .originator .0 ≢ own .0))
@@ -118,7 +132,7 @@ considered-key hop cost e = go (suits cost e) where
   go true = refl
   go false = refl
 
-found-key : (s : Search) (r : RouteEntry) (xs : List RouteEntry) → routeKey (found s r (lookup routeKey (s .originator .0) xs)) ≡ s .originator .0
+pub found-key : (s : Search) (r : RouteEntry) (xs : List RouteEntry) → routeKey (found s r (lookup routeKey (s .originator .0) xs)) ≡ s .originator .0
 found-key s r xs = go (eqb (routeKey r) (s .originator .0)) refl (lookup routeKey (s .originator .0) xs) refl where
   go : (b : Bool) → eqb (routeKey r) (s .originator .0) ≡ b → (o : Option RouteEntry) → lookup routeKey (s .originator .0) xs ≡ o
       → routeKey (Option·getD (cond b (some r) o) (newRoute (s .originator) Inactive unknownHop)) ≡ s .originator .0
