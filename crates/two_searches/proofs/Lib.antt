@@ -4,3 +4,5 @@ pub mod Puts
 pub mod Touch
 pub mod Merged
 pub mod Rule
+pub mod Exact
+pub mod Own

@@ -8,7 +8,7 @@ use Prim.Native.Nat.{ℕ}
 use mathlib.Core.Path.{_≡_, refl, sym, ap, _∙_}
 use mathlib.Core.Logic.{_⊎_, inl, inr, _≢_}
 use mathlib.Core.Bool.{Bool, true, false, cond}
-use mathlib.Core.List.{List}
+use mathlib.Core.List.{List, [], _∷_}
 use mathlib.Core.Option.{Option, none}
 use native.Mathlib.Omega.{arith}
 use borrow.Author.Tests.{eqb-false}
@@ -140,3 +140,23 @@ pub merges-end-alike : (own : Nwk) (a b : Search) → Apart own a b
     → {xs ys : List Heard} {zs ws : List (Heard ⊎ Heard)} → Merge xs ys zs → Merge xs ys ws → (t : Tables)
     → final (either (hear own a) (hear own b)) zs t ≡ final (either (hear own a) (hear own b)) ws t
 merges-end-alike own a b p m n t = same-end (independent own a b p) m n t tt
+
+-- a stream of the second search leaves what the first sees
+view-stream : (own : Nwk) (a b : Search) → Apart own a b → (ys : List Heard) (t : Tables) → view own a (final (hear own b) ys t) ≡ view own a t
+unfolding final
+view-stream own a b p [] t = refl
+view-stream own a b p (y ∷ ys) t = view-stream own a b p ys ((hear own b y t) .1) ∙ view-kept own a b p y t
+
+module _ (own : Nwk) (a b : Search) (p : Apart own a b) {xs ys : List Heard} {zs : List (Heard ⊎ Heard)} (m : Merge xs ys zs) (t : Tables) where
+  -- After any merge each responder's route is what its own stream alone would leave.
+  pub first-route : lookup routeKey (a .responder .0) (final (either (hear own a) (hear own b)) zs t .routes)
+      ≡ lookup routeKey (a .responder .0) (final (hear own a) xs t .routes)
+  first-route =
+      ap (λ u. lookup routeKey (a .responder .0) (u .routes)) (merged-apart own a b p m t .end)
+      ∙ ap (λ v. v .responder) (view-stream own a b p ys (final (hear own a) xs t))
+
+  pub second-route : lookup routeKey (b .responder .0) (final (either (hear own a) (hear own b)) zs t .routes)
+      ≡ lookup routeKey (b .responder .0) (final (hear own b) ys t .routes)
+  second-route =
+      ap (λ u. lookup routeKey (b .responder .0) (u .routes)) (merged-apart own a b p m t .other-end)
+      ∙ ap (λ v. v .responder) (view-stream own b a (apart-swap own a b p) xs (final (hear own b) ys t))

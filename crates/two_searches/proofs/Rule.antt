@@ -193,14 +193,14 @@ module _
           rw (not-below own s x t d h m) (λ e. b .0 (k .0 e), λ e. k .1 (b .1 e))
 
     module _ (x : Heard) (t : Tables) (d : DiscoveryEntry) (r : RouteEntry) (h : Stands own s d r t) where
-      taken-is-marked : drops (isOurs own s) x d r ≡ false → Marked ((hear own s x t) .0)
+      pub taken-is-marked : drops (isOurs own s) x d r ≡ false → Marked ((hear own s x t) .0)
       taken-is-marked e = ap (λ q. mark (q .0 .disposition)) (is-taken own s x t d r h e) ∙ ap mark (done-disposition own s x t d r h) ∙ taken-marked d x
 
       dropped-is-unmarked : drops (isOurs own s) x d r ≡ true → Marked ((hear own s x t) .0) → ⊥
       dropped-is-unmarked e m = drop-not-marked (rw (is-dropped own s x t d r h e) at m)
 
       -- after a reply that is taken the search stands by its cost and its sender
-      stands-after : (isOurs own s ≡ false → s .responder .0 ≢ s .originator .0) → drops (isOurs own s) x d r ≡ false
+      pub stands-after : (isOurs own s ≡ false → s .responder .0 ≢ s .originator .0) → drops (isOurs own s) x d r ≡ false
           → Stands own s (settled (x .cost) d) (via (x .sender) (x .cost) r) ((hear own s x t) .1)
       stands-after n e = rw (is-taken own s x t d r h e) (record { discovery = done-discovery own s x t d r h; route = done-route own s x t d r h n })
 
