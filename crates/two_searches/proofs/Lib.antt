@@ -6,3 +6,4 @@ pub mod Merged
 pub mod Rule
 pub mod Exact
 pub mod Own
+pub mod Sizes

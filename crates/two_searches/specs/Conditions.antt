@@ -3,17 +3,18 @@
 --   discovery table, one responder each, our own address unchanged. The responders differ from each other and from both originators;
 --   the originators differ unless both are us; responders and foreign originators have route entries; no other call comes between."
 -- Assumes nothing.
-use Prim.Native.Nat.{ℕ, _<_}
+use Prim.Native.Nat.{ℕ, _<_, _≤_}
 use mathlib.Core.Path.{_≡_}
 use mathlib.Core.Logic.{_≢_}
 use mathlib.Core.Option.{some}
+use lib.ListN.{length}
 use Rattle.types.specs.declared.Nwk.{Nwk}
 use Rattle.standard.specs.declared.RouteEntry.{RouteEntry}
 use Rattle.standard.specs.declared.DiscoveryEntry.{DiscoveryEntry}
 use Rattle.standard.specs.Ordered.{lookup}
 use Rattle.standard.specs.Route.{routeKey}
 use Rattle.standard.specs.Discovery.{pairKey, discoveryKey}
-use Rattle.standard.specs.Tables.{Tables}
+use Rattle.standard.specs.Tables.{Tables, InOrder}
 use Rattle.two_searches.specs.Streams.{Search}
 
 -- the key of a search in the discovery table
@@ -73,3 +74,10 @@ pub record Apart (own : Nwk) (a b : Search) : Type 0 where
   pub first-responder : b .originator ≢ own → a .responder ≢ b .originator
   pub second-responder : a .originator ≢ own → b .responder ≢ a .originator
   pub originators-differ : a .originator ≡ b .originator → a .originator ≡ own
+
+-- Tables that meet the conditions, are in order and have room for what they hold: from such tables no reply is refused.
+pub record Fits (own : Nwk) (a b : Search) (routes discoveries : ℕ) (t : Tables) : Type 0 where
+  pub conditions : Conditions own a b t
+  pub in-order : InOrder t
+  pub routes-fit : length (t .routes) ≤ routes
+  pub discoveries-fit : length (t .discoveries) ≤ discoveries
