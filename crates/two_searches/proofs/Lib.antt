@@ -7,3 +7,5 @@ pub mod Rule
 pub mod Exact
 pub mod Own
 pub mod Sizes
+pub mod Worked
+pub mod Edges
