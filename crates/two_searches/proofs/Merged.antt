@@ -38,23 +38,23 @@ addresses-differ m n h e = h (ap (λ k. k .0) e)
 pub apart-swap : (own : Nwk) (a b : Search) → Apart own a b → Apart own b a
 apart-swap own a b p =
     record {
-      keys-differ = λ e. p .keys-differ (sym e);
-      responders-differ = λ e. p .responders-differ (sym e);
-      first-responder = p .second-responder;
-      second-responder = p .first-responder;
-      originators-differ = λ e. e ∙ p .originators-differ (sym e);
+      keys-apart = λ e. p .keys-apart (sym e);
+      responders-apart = λ e. p .responders-apart (sym e);
+      first-responder-apart = p .second-responder-apart;
+      second-responder-apart = p .first-responder-apart;
+      originators-apart = λ e. e ∙ p .originators-apart (sym e);
     }
 
 module _ (own : Nwk) (a b : Search) (p : Apart own a b) where
   -- no route key belongs to both
   routes-apart : (k : ℕ) → RouteKeys own a k → RouteKeys own b k → ⊥
-  routes-apart k (inl e) (inl f) = p .responders-differ (one-address _ _ (sym e ∙ f))
-  routes-apart k (inl e) (inr f) = p .first-responder (addresses-differ _ _ (f .1)) (one-address _ _ (sym e ∙ f .0))
-  routes-apart k (inr e) (inl f) = p .second-responder (addresses-differ _ _ (e .1)) (one-address _ _ (sym f ∙ e .0))
-  routes-apart k (inr e) (inr f) = e .1 (ap (λ n. n .0) (p .originators-differ (one-address _ _ (sym (e .0) ∙ f .0))))
+  routes-apart k (inl e) (inl f) = p .responders-apart (one-address _ _ (sym e ∙ f))
+  routes-apart k (inl e) (inr f) = p .first-responder-apart (addresses-differ _ _ (f .1)) (one-address _ _ (sym e ∙ f .0))
+  routes-apart k (inr e) (inl f) = p .second-responder-apart (addresses-differ _ _ (e .1)) (one-address _ _ (sym f ∙ e .0))
+  routes-apart k (inr e) (inr f) = e .1 (ap (λ n. n .0) (p .originators-apart (one-address _ _ (sym (e .0) ∙ f .0))))
 
   discoveries-apart : (k : ℕ) → DiscoveryKeys a k → DiscoveryKeys b k → ⊥
-  discoveries-apart k e f = p .keys-differ (sym e ∙ f)
+  discoveries-apart k e f = p .keys-apart (sym e ∙ f)
 
   -- what the second search puts, the first does not see
   view-applied : (c : Change) → OwnKeys own b c → (t : Tables) → view own a (applied c t) ≡ view own a t
@@ -116,13 +116,13 @@ independent own a b p =
 pub conditions-apart : (own : Nwk) (a b : Search) (t : Tables) → Conditions own a b t → Apart own a b
 conditions-apart own a b t c =
     record {
-      keys-differ = λ e.
+      keys-apart = λ e.
           let bytes = c .ids-are-bytes in
           c .two-searches (one-address (a .originator) (b .originator) (omega arith)) (omega arith);
-      responders-differ = c .responders-differ;
-      first-responder = λ h. c .no-responder-is-originator .0 .1;
-      second-responder = λ h. c .no-responder-is-originator .1 .0;
-      originators-differ = c .originators-differ;
+      responders-apart = c .responders-differ;
+      first-responder-apart = λ h. c .no-responder-is-originator .0 .1;
+      second-responder-apart = λ h. c .no-responder-is-originator .1 .0;
+      originators-apart = c .originators-differ;
     }
 
 -- Demand 3: "However the streams are merged, each reply is answered as in its own stream alone, and the tables end the same."

@@ -69,11 +69,11 @@ pub record Conditions (own : Nwk) (a b : Search) (t : Tables) : Type 0 where
 -- What of them the merge itself needs, whatever the tables hold: no route that one search writes is read or written by the other.
 -- A search writes its responder's route and, if it is another node's, its originator's.
 pub record Apart (own : Nwk) (a b : Search) : Type 0 where
-  pub keys-differ : searchKey a ≢ searchKey b
-  pub responders-differ : a .responder ≢ b .responder
-  pub first-responder : b .originator ≢ own → a .responder ≢ b .originator
-  pub second-responder : a .originator ≢ own → b .responder ≢ a .originator
-  pub originators-differ : a .originator ≡ b .originator → a .originator ≡ own
+  pub keys-apart : searchKey a ≢ searchKey b
+  pub responders-apart : a .responder ≢ b .responder
+  pub first-responder-apart : b .originator ≢ own → a .responder ≢ b .originator
+  pub second-responder-apart : a .originator ≢ own → b .responder ≢ a .originator
+  pub originators-apart : a .originator ≡ b .originator → a .originator ≡ own
 
 -- Tables that meet the conditions, are in order and have room for what they hold: from such tables no reply is refused.
 pub record Fits (own : Nwk) (a b : Search) (routes discoveries : ℕ) (t : Tables) : Type 0 where
