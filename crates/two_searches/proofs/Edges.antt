@@ -21,7 +21,7 @@ use Rattle.standard.specs.Discovery.{pairKey, live}
 use Rattle.standard.specs.Begin.{begin}
 use Rattle.standard.specs.Reply.{replyOurs, replyTheirs, replyTo, reply}
 use Rattle.standard.specs.Tables.{Tables}
-use Rattle.two_searches.specs.Streams.{Search, Heard, hear, answers, final, firsts, seconds, either, AsAlone}
+use Rattle.two_searches.specs.Streams.{Search, Heard, hear, answers, final, either, AsAlone, hearBoth}
 use Rattle.two_searches.specs.Conditions.{RouteTo}
 use Rattle.two_searches.specs.Exactly.{dropAnswer}
 use Rattle.two_searches.proofs.Worked.{own, lost, inUse, wanted, tables, search, from_at_, changed, answer}
@@ -43,7 +43,7 @@ hopTo n t = hopIn (lookup routeKey n (t .routes))
 
 -- what a merge of replies to two searches leaves of the worked tables
 abbrev left : Search → Search → List (Heard ⊎ Heard) → Tables
-left a b zs = final (either (hear own a) (hear own b)) zs tables
+left a b zs = final (hearBoth own a b) zs tables
 
 -- the promise for one reply each, the first search's coming first
 abbrev Promise : Search → Search → Heard → Heard → Type 0

@@ -18,7 +18,7 @@ use Rattle.standard.specs.declared.RouteReplyDisposition.{RouteReplyDisposition
 use Rattle.standard.specs.declared.RouteReplyDisposition.the-variants.{Drop, Relay}
 use Rattle.standard.specs.Route.{via}
 use Rattle.standard.specs.Tables.{Tables}
-use Rattle.two_searches.specs.Streams.{Search, Heard, Answer, hear, answers, final, Merge, firsts, seconds, either}
+use Rattle.two_searches.specs.Streams.{Search, Heard, hear, answers, final, Merge, firsts, seconds, hearBoth}
 use Rattle.two_searches.specs.Conditions.{HeldAs, RouteTo, Conditions}
 use Rattle.two_searches.specs.Exactly.{replyAt, dropAnswer, answerAt, Beats, isRelay, Relayed, Last, Nowhere}
 use Rattle.two_searches.proofs.Touch.{isOurs}
@@ -42,7 +42,7 @@ module _
     relay-marked : (e : DiscoveryEntry) (x : Heard) → isRelay (taken (isOurs own s) e x) ≡ true
     relay-marked e x = rw not-ours
 
-    stands : Stands own s d r t
+    stands : Stands s d r t
     stands = record { discovery = held; route = known }
 
     -- Demand 3: "a reply is relayed exactly if its cost is below the starting residual and every earlier cost of that stream"
@@ -80,42 +80,42 @@ module _
 -- the same in any merge, for the first stream and for the second
 module _ (own : Nwk) (a b : Search) (t : Tables) (c : Conditions own a b t) {xs ys : List Heard} {zs : List (Heard ⊎ Heard)} (m : Merge xs ys zs) where
   pub first-relayed-exactly : a .originator ≢ own → (d : DiscoveryEntry) → HeldAs a d t → (i : ℕ) → i < length xs
-      → Relayed (answerAt (firsts (answers (either (hear own a) (hear own b)) zs t)) i) ↔ Beats (d .«residual_cost») xs i
+      → Relayed (answerAt (firsts (answers (hearBoth own a b) zs t)) i) ↔ Beats (d .«residual_cost») xs i
   first-relayed-exactly theirs d held i l =
       let known = c .responders-known .0 in
       rw (merged own a b t c m .first) (relayed-exactly own a theirs t d held (known .0) (known .1) xs i l)
 
   pub first-last-relayed : a .originator ≢ own → (r : RouteEntry) → RouteTo (a .responder) r t
-      → (i : ℕ) → Last Relayed (firsts (answers (either (hear own a) (hear own b)) zs t)) i
-      → RouteTo (a .responder) (via (replyAt xs i .sender) (replyAt xs i .cost) r) (final (either (hear own a) (hear own b)) zs t)
+      → (i : ℕ) → Last Relayed (firsts (answers (hearBoth own a b) zs t)) i
+      → RouteTo (a .responder) (via (replyAt xs i .sender) (replyAt xs i .cost) r) (final (hearBoth own a b) zs t)
   first-last-relayed theirs r known i l =
       let held = c .held .0 in
       first-route own a b (conditions-apart own a b t c) m t
       ∙ last-relayed own a theirs t (held .0) (held .1) r known xs (c .no-responder-is-originator .0 .0) i (rw (merged own a b t c m .first) at l)
 
   pub first-none-relayed : a .originator ≢ own → (r : RouteEntry) → RouteTo (a .responder) r t
-      → Nowhere Relayed (firsts (answers (either (hear own a) (hear own b)) zs t)) → RouteTo (a .responder) r (final (either (hear own a) (hear own b)) zs t)
+      → Nowhere Relayed (firsts (answers (hearBoth own a b) zs t)) → RouteTo (a .responder) r (final (hearBoth own a b) zs t)
   first-none-relayed theirs r known n =
       let held = c .held .0 in
       first-route own a b (conditions-apart own a b t c) m t
       ∙ rw (none-relayed own a theirs t (held .0) (held .1) r known xs (rw (merged own a b t c m .first) at n)) known
 
   pub second-relayed-exactly : b .originator ≢ own → (d : DiscoveryEntry) → HeldAs b d t → (i : ℕ) → i < length ys
-      → Relayed (answerAt (seconds (answers (either (hear own a) (hear own b)) zs t)) i) ↔ Beats (d .«residual_cost») ys i
+      → Relayed (answerAt (seconds (answers (hearBoth own a b) zs t)) i) ↔ Beats (d .«residual_cost») ys i
   second-relayed-exactly theirs d held i l =
       let known = c .responders-known .1 in
       rw (merged own a b t c m .second) (relayed-exactly own b theirs t d held (known .0) (known .1) ys i l)
 
   pub second-last-relayed : b .originator ≢ own → (r : RouteEntry) → RouteTo (b .responder) r t
-      → (i : ℕ) → Last Relayed (seconds (answers (either (hear own a) (hear own b)) zs t)) i
-      → RouteTo (b .responder) (via (replyAt ys i .sender) (replyAt ys i .cost) r) (final (either (hear own a) (hear own b)) zs t)
+      → (i : ℕ) → Last Relayed (seconds (answers (hearBoth own a b) zs t)) i
+      → RouteTo (b .responder) (via (replyAt ys i .sender) (replyAt ys i .cost) r) (final (hearBoth own a b) zs t)
   second-last-relayed theirs r known i l =
       let held = c .held .1 in
       second-route own a b (conditions-apart own a b t c) m t
       ∙ last-relayed own b theirs t (held .0) (held .1) r known ys (c .no-responder-is-originator .1 .1) i (rw (merged own a b t c m .second) at l)
 
   pub second-none-relayed : b .originator ≢ own → (r : RouteEntry) → RouteTo (b .responder) r t
-      → Nowhere Relayed (seconds (answers (either (hear own a) (hear own b)) zs t)) → RouteTo (b .responder) r (final (either (hear own a) (hear own b)) zs t)
+      → Nowhere Relayed (seconds (answers (hearBoth own a b) zs t)) → RouteTo (b .responder) r (final (hearBoth own a b) zs t)
   second-none-relayed theirs r known n =
       let held = c .held .1 in
       second-route own a b (conditions-apart own a b t c) m t

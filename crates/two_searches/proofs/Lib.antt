@@ -9,3 +9,4 @@ pub mod Own
 pub mod Sizes
 pub mod Worked
 pub mod Edges
+pub mod Lift

@@ -18,7 +18,7 @@ use Rattle.standard.specs.Ordered.{lookup}
 use Rattle.standard.specs.Route.{routeKey}
 use Rattle.standard.specs.Discovery.{discoveryKey}
 use Rattle.standard.specs.Tables.{Tables}
-use Rattle.two_searches.specs.Streams.{Search, Heard, hear, final, Merge, either, AsAlone}
+use Rattle.two_searches.specs.Streams.{Search, Heard, hear, final, Merge, AsAlone, hearBoth}
 use Rattle.two_searches.specs.Conditions.{searchKey, Conditions, Apart}
 use Rattle.two_searches.specs.Steps.{Independent}
 use Rattle.two_searches.proofs.Puts.{puts, Within, lookup-puts, puts-comm}
@@ -138,7 +138,7 @@ merged-apart own a b p m t = as-alone (independent own a b p) m t tt
 -- Two merges of the same streams leave the same tables.
 pub merges-end-alike : (own : Nwk) (a b : Search) → Apart own a b
     → {xs ys : List Heard} {zs ws : List (Heard ⊎ Heard)} → Merge xs ys zs → Merge xs ys ws → (t : Tables)
-    → final (either (hear own a) (hear own b)) zs t ≡ final (either (hear own a) (hear own b)) ws t
+    → final (hearBoth own a b) zs t ≡ final (hearBoth own a b) ws t
 merges-end-alike own a b p m n t = same-end (independent own a b p) m n t tt
 
 -- a stream of the second search leaves what the first sees
@@ -149,13 +149,13 @@ view-stream own a b p (y ∷ ys) t = view-stream own a b p ys ((hear own b y t) 
 
 module _ (own : Nwk) (a b : Search) (p : Apart own a b) {xs ys : List Heard} {zs : List (Heard ⊎ Heard)} (m : Merge xs ys zs) (t : Tables) where
   -- After any merge each responder's route is what its own stream alone would leave.
-  pub first-route : lookup routeKey (a .responder .0) (final (either (hear own a) (hear own b)) zs t .routes)
+  pub first-route : lookup routeKey (a .responder .0) (final (hearBoth own a b) zs t .routes)
       ≡ lookup routeKey (a .responder .0) (final (hear own a) xs t .routes)
   first-route =
       ap (λ u. lookup routeKey (a .responder .0) (u .routes)) (merged-apart own a b p m t .end)
       ∙ ap (λ v. v .responder) (view-stream own a b p ys (final (hear own a) xs t))
 
-  pub second-route : lookup routeKey (b .responder .0) (final (either (hear own a) (hear own b)) zs t .routes)
+  pub second-route : lookup routeKey (b .responder .0) (final (hearBoth own a b) zs t .routes)
       ≡ lookup routeKey (b .responder .0) (final (hear own b) ys t .routes)
   second-route =
       ap (λ u. lookup routeKey (b .responder .0) (u .routes)) (merged-apart own a b p m t .other-end)

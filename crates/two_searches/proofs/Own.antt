@@ -13,7 +13,7 @@ use Rattle.standard.specs.declared.DiscoveryEntry.{DiscoveryEntry}
 use Rattle.standard.specs.Route.{isActive, via}
 use Rattle.standard.specs.Tables.{Tables}
 use Rattle.standard.specs.Reply.{settled}
-use Rattle.two_searches.specs.Streams.{Search, Heard, hear, answers, final, Merge, firsts, seconds, either}
+use Rattle.two_searches.specs.Streams.{Search, Heard, hear, answers, final, Merge, firsts, seconds, hearBoth}
 use Rattle.two_searches.specs.Conditions.{HeldAs, RouteTo, Conditions}
 use Rattle.two_searches.specs.Exactly.{replyAt, answerAt, Beats, isEstablished, Establishes, Last, Nowhere}
 use Rattle.two_searches.proofs.Touch.{isOurs, drops}
@@ -36,7 +36,7 @@ module _
     establish-marked : (e : DiscoveryEntry) (x : Heard) → isEstablished (taken (isOurs own s) e x) ≡ true
     establish-marked e x = rw is-ours
 
-    stands : Stands own s d r t
+    stands : Stands s d r t
     stands = record { discovery = held; route = known }
 
     never-theirs : isOurs own s ≡ false → s .responder .0 ≢ s .originator .0
@@ -78,40 +78,40 @@ module _
 -- the same in any merge, for the first stream and for the second
 module _ (own : Nwk) (a b : Search) (t : Tables) (c : Conditions own a b t) {xs ys : List Heard} {zs : List (Heard ⊎ Heard)} (m : Merge xs ys zs) where
   pub first-established-exactly : a .originator ≡ own → (d : DiscoveryEntry) → HeldAs a d t → (r : RouteEntry) → RouteTo (a .responder) r t → isActive (r .status) ≡ true
-      → (i : ℕ) → i < length xs → Establishes (answerAt (firsts (answers (either (hear own a) (hear own b)) zs t)) i) ↔ Beats (d .«residual_cost») xs i
+      → (i : ℕ) → i < length xs → Establishes (answerAt (firsts (answers (hearBoth own a b) zs t)) i) ↔ Beats (d .«residual_cost») xs i
   first-established-exactly ours d held r known active i l =
       rw (merged own a b t c m .first) (established-exactly own a ours t d held r known active xs i l)
 
   pub first-last-established : a .originator ≡ own → (r : RouteEntry) → RouteTo (a .responder) r t
-      → (i : ℕ) → Last Establishes (firsts (answers (either (hear own a) (hear own b)) zs t)) i
-      → RouteTo (a .responder) (via (replyAt xs i .sender) (replyAt xs i .cost) r) (final (either (hear own a) (hear own b)) zs t)
+      → (i : ℕ) → Last Establishes (firsts (answers (hearBoth own a b) zs t)) i
+      → RouteTo (a .responder) (via (replyAt xs i .sender) (replyAt xs i .cost) r) (final (hearBoth own a b) zs t)
   first-last-established ours r known i l =
       let held = c .held .0 in
       first-route own a b (conditions-apart own a b t c) m t
       ∙ last-established own a ours t (held .0) (held .1) r known xs i (rw (merged own a b t c m .first) at l)
 
   pub first-none-established : a .originator ≡ own → (r : RouteEntry) → RouteTo (a .responder) r t
-      → Nowhere Establishes (firsts (answers (either (hear own a) (hear own b)) zs t)) → RouteTo (a .responder) r (final (either (hear own a) (hear own b)) zs t)
+      → Nowhere Establishes (firsts (answers (hearBoth own a b) zs t)) → RouteTo (a .responder) r (final (hearBoth own a b) zs t)
   first-none-established ours r known n =
       let held = c .held .0 in
       first-route own a b (conditions-apart own a b t c) m t
       ∙ rw (none-established own a ours t (held .0) (held .1) r known xs (rw (merged own a b t c m .first) at n)) known
 
   pub second-established-exactly : b .originator ≡ own → (d : DiscoveryEntry) → HeldAs b d t → (r : RouteEntry) → RouteTo (b .responder) r t → isActive (r .status) ≡ true
-      → (i : ℕ) → i < length ys → Establishes (answerAt (seconds (answers (either (hear own a) (hear own b)) zs t)) i) ↔ Beats (d .«residual_cost») ys i
+      → (i : ℕ) → i < length ys → Establishes (answerAt (seconds (answers (hearBoth own a b) zs t)) i) ↔ Beats (d .«residual_cost») ys i
   second-established-exactly ours d held r known active i l =
       rw (merged own a b t c m .second) (established-exactly own b ours t d held r known active ys i l)
 
   pub second-last-established : b .originator ≡ own → (r : RouteEntry) → RouteTo (b .responder) r t
-      → (i : ℕ) → Last Establishes (seconds (answers (either (hear own a) (hear own b)) zs t)) i
-      → RouteTo (b .responder) (via (replyAt ys i .sender) (replyAt ys i .cost) r) (final (either (hear own a) (hear own b)) zs t)
+      → (i : ℕ) → Last Establishes (seconds (answers (hearBoth own a b) zs t)) i
+      → RouteTo (b .responder) (via (replyAt ys i .sender) (replyAt ys i .cost) r) (final (hearBoth own a b) zs t)
   second-last-established ours r known i l =
       let held = c .held .1 in
       second-route own a b (conditions-apart own a b t c) m t
       ∙ last-established own b ours t (held .0) (held .1) r known ys i (rw (merged own a b t c m .second) at l)
 
   pub second-none-established : b .originator ≡ own → (r : RouteEntry) → RouteTo (b .responder) r t
-      → Nowhere Establishes (seconds (answers (either (hear own a) (hear own b)) zs t)) → RouteTo (b .responder) r (final (either (hear own a) (hear own b)) zs t)
+      → Nowhere Establishes (seconds (answers (hearBoth own a b) zs t)) → RouteTo (b .responder) r (final (hearBoth own a b) zs t)
   second-none-established ours r known n =
       let held = c .held .1 in
       second-route own a b (conditions-apart own a b t c) m t
@@ -120,25 +120,25 @@ module _ (own : Nwk) (a b : Search) (t : Tables) (c : Conditions own a b t) {xs 
 -- and from a route that is not Active, where a stream begins with x
 module _ (own : Nwk) (a b : Search) (t : Tables) (c : Conditions own a b t) (x : Heard) {xs ys : List Heard} {zs : List (Heard ⊎ Heard)} where
   pub first-stream-first : Merge (x ∷ xs) ys zs → a .originator ≡ own → (r : RouteEntry) → RouteTo (a .responder) r t → isActive (r .status) ≡ false
-      → Establishes (answerAt (firsts (answers (either (hear own a) (hear own b)) zs t)) zero)
+      → Establishes (answerAt (firsts (answers (hearBoth own a b) zs t)) zero)
   first-stream-first m ours r known idle =
       let held = c .held .0 in
       rw (merged own a b t c m .first) (first-establishes own a ours t (held .0) (held .1) r known idle x xs)
 
   pub first-stream-rule : Merge (x ∷ xs) ys zs → a .originator ≡ own → (r : RouteEntry) → RouteTo (a .responder) r t → isActive (r .status) ≡ false
-      → (i : ℕ) → i < length xs → Establishes (answerAt (firsts (answers (either (hear own a) (hear own b)) zs t)) (suc i)) ↔ Beats (x .cost) xs i
+      → (i : ℕ) → i < length xs → Establishes (answerAt (firsts (answers (hearBoth own a b) zs t)) (suc i)) ↔ Beats (x .cost) xs i
   first-stream-rule m ours r known idle i l =
       let held = c .held .0 in
       rw (merged own a b t c m .first) (rule-from-first own a ours t (held .0) (held .1) r known idle x xs i l)
 
   pub second-stream-first : Merge ys (x ∷ xs) zs → b .originator ≡ own → (r : RouteEntry) → RouteTo (b .responder) r t → isActive (r .status) ≡ false
-      → Establishes (answerAt (seconds (answers (either (hear own a) (hear own b)) zs t)) zero)
+      → Establishes (answerAt (seconds (answers (hearBoth own a b) zs t)) zero)
   second-stream-first m ours r known idle =
       let held = c .held .1 in
       rw (merged own a b t c m .second) (first-establishes own b ours t (held .0) (held .1) r known idle x xs)
 
   pub second-stream-rule : Merge ys (x ∷ xs) zs → b .originator ≡ own → (r : RouteEntry) → RouteTo (b .responder) r t → isActive (r .status) ≡ false
-      → (i : ℕ) → i < length xs → Establishes (answerAt (seconds (answers (either (hear own a) (hear own b)) zs t)) (suc i)) ↔ Beats (x .cost) xs i
+      → (i : ℕ) → i < length xs → Establishes (answerAt (seconds (answers (hearBoth own a b) zs t)) (suc i)) ↔ Beats (x .cost) xs i
   second-stream-rule m ours r known idle i l =
       let held = c .held .1 in
       rw (merged own a b t c m .second) (rule-from-first own b ours t (held .0) (held .1) r known idle x xs i l)

@@ -4,7 +4,7 @@ use mathlib.Core.Path.{_≡_, refl, sym, ap, _∙_}
 use mathlib.Core.Logic.{_⊎_, inl, inr, ⊎-map}
 use mathlib.Core.List.{List, [], _∷_, map}
 use Rattle.two_searches.specs.Streams.{answers, final, firsts, seconds, either, AsAlone}
-use Rattle.two_searches.specs.Steps.{Packed}
+use Rattle.two_searches.specs.Steps.{Independent, Packed}
 
 module _ {S T X O P : Type 0} {I : T → Type 0} {pack : T → S} {say : O → P} {f : X → T → O × T} {g : X → S → P × S} (packed : Packed I pack say f g) where
   pub packed-answers : (xs : List X) (t : T) → I t → answers g xs (pack t) ≡ map say (answers f xs t)
@@ -84,3 +84,27 @@ module _
               packed-final packed-either zs t h ∙ ap pack (k .other-end)
               ∙ sym (ap (final f′ xs) (packed-final second ys t h) ∙ packed-final first xs (final g ys t) (stream-keeps second ys t h));
         }
+
+    -- steps that are independent inside are so on the packed states
+    pub packed-independent : Independent I f g → Independent (λ s. (t : T) × I t × (s ≡ pack t)) f′ g′
+    packed-independent i =
+        record {
+          first-keeps = λ x s h. ((f x (h .0)) .1, first .keeps x (h .0) (h .1), ap (λ u. (f′ x u) .1) (h .2) ∙ first .state x (h .0) (h .1));
+          second-keeps = λ y s h. ((g y (h .0)) .1, second .keeps y (h .0) (h .1), ap (λ u. (g′ y u) .1) (h .2) ∙ second .state y (h .0) (h .1));
+          first-answer = λ x y s h. rw (h .2) (first-answer x y (h .0) (h .1));
+          second-answer = λ x y s h. rw (h .2) (second-answer x y (h .0) (h .1));
+          commute = λ x y s h. rw (h .2) (commute x y (h .0) (h .1));
+        }
+      where
+        first-answer : (x : X) (y : Y) (t : T) → I t → (f′ x ((g′ y (pack t)) .1)) .0 ≡ (f′ x (pack t)) .0
+        first-answer x y t h =
+            rw (second .state y t h, first .answer x t h, first .answer x ((g y t) .1) (second .keeps y t h)) (ap p (i .first-answer x y t h))
+
+        second-answer : (x : X) (y : Y) (t : T) → I t → (g′ y ((f′ x (pack t)) .1)) .0 ≡ (g′ y (pack t)) .0
+        second-answer x y t h =
+            rw (first .state x t h, second .answer y t h, second .answer y ((f x t) .1) (first .keeps x t h)) (ap q (i .second-answer x y t h))
+
+        commute : (x : X) (y : Y) (t : T) → I t → (f′ x ((g′ y (pack t)) .1)) .1 ≡ (g′ y ((f′ x (pack t)) .1)) .1
+        commute x y t h =
+            rw (second .state y t h, first .state x t h, first .state x ((g y t) .1) (second .keeps y t h), second .state y ((f x t) .1) (first .keeps x t h))
+            (ap pack (i .commute x y t h))

@@ -33,13 +33,13 @@ abbrev pub taken : Bool → DiscoveryEntry → Heard → RouteReplyDisposition
 taken true d x = Established
 taken false d x = Relay (d .«sender_address») (x .cost)
 
-module _ (own : Nwk) (s : Search) where
-  -- the search is held as d and its responder's route is r
-  pub record Stands (d : DiscoveryEntry) (r : RouteEntry) (t : Tables) : Type 0 where
-    pub discovery : HeldAs s d t
-    pub route : RouteTo (s .responder) r t
+-- the search s is held as d, and its responder's route is r
+pub record Stands (s : Search) (d : DiscoveryEntry) (r : RouteEntry) (t : Tables) : Type 0 where
+  pub discovery : HeldAs s d t
+  pub route : RouteTo (s .responder) r t
 
-  module _ (x : Heard) (t : Tables) (d : DiscoveryEntry) (r : RouteEntry) (h : Stands d r t) where
+module _ (own : Nwk) (s : Search) where
+  module _ (x : Heard) (t : Tables) (d : DiscoveryEntry) (r : RouteEntry) (h : Stands s d r t) where
     -- what is done with a reply that is not dropped
     abbrev done : Answer × Change
     done = taking (isOurs own s) s x d r (view own s t .originator)
@@ -103,7 +103,7 @@ module _ (own : Nwk) (s : Search) where
   -- the search is held as d and only the residual decides: the responder has a route, which is Active if the search is ours
   pub record Ready (d : DiscoveryEntry) (t : Tables) : Type 0 where
     pub route : RouteEntry
-    pub stands : Stands d route t
+    pub stands : Stands s d route t
     pub active : isOurs own s ≡ true → isActive (route .status) ≡ true
 
   residual-decides : (x : Heard) (t : Tables) (d : DiscoveryEntry) (h : Ready d t) → drops (isOurs own s) x d (h .route) ≡ leb (d .«residual_cost») (x .cost)
@@ -192,7 +192,7 @@ module _
           let b = beats-stayed (d .«residual_cost») x xs i m in
           rw (not-below own s x t d h m) (λ e. b .0 (k .0 e), λ e. k .1 (b .1 e))
 
-    module _ (x : Heard) (t : Tables) (d : DiscoveryEntry) (r : RouteEntry) (h : Stands own s d r t) where
+    module _ (x : Heard) (t : Tables) (d : DiscoveryEntry) (r : RouteEntry) (h : Stands s d r t) where
       pub taken-is-marked : drops (isOurs own s) x d r ≡ false → Marked ((hear own s x t) .0)
       taken-is-marked e = ap (λ q. mark (q .0 .disposition)) (is-taken own s x t d r h e) ∙ ap mark (done-disposition own s x t d r h) ∙ taken-marked d x
 
@@ -201,11 +201,11 @@ module _
 
       -- after a reply that is taken the search stands by its cost and its sender
       pub stands-after : (isOurs own s ≡ false → s .responder .0 ≢ s .originator .0) → drops (isOurs own s) x d r ≡ false
-          → Stands own s (settled (x .cost) d) (via (x .sender) (x .cost) r) ((hear own s x t) .1)
+          → Stands s (settled (x .cost) d) (via (x .sender) (x .cost) r) ((hear own s x t) .1)
       stands-after n e = rw (is-taken own s x t d r h e) (record { discovery = done-discovery own s x t d r h; route = done-route own s x t d r h n })
 
     -- a stream of which nothing is taken leaves the tables as they were
-    pub nothing-taken : (xs : List Heard) (t : Tables) (d : DiscoveryEntry) (r : RouteEntry) → Stands own s d r t
+    pub nothing-taken : (xs : List Heard) (t : Tables) (d : DiscoveryEntry) (r : RouteEntry) → Stands s d r t
         → Nowhere Marked (answers (hear own s) xs t) → final (hear own s) xs t ≡ t
     unfolding answers final
     nothing-taken [] t d r h n = refl
@@ -220,7 +220,7 @@ module _
 
     -- the last one taken is the responder's route: Active, by its sender, at its cost; the rest of the entry as it was
     pub last-taken : (isOurs own s ≡ false → s .responder .0 ≢ s .originator .0)
-        → (xs : List Heard) (t : Tables) (d : DiscoveryEntry) (r : RouteEntry) → Stands own s d r t
+        → (xs : List Heard) (t : Tables) (d : DiscoveryEntry) (r : RouteEntry) → Stands s d r t
         → (i : ℕ) → Last Marked (answers (hear own s) xs t) i
         → RouteTo (s .responder) (via (replyAt xs i .sender) (replyAt xs i .cost) r) (final (hear own s) xs t)
     unfolding answers final
@@ -239,7 +239,7 @@ module _
       rest-last = record { here = l .here; none-later = λ j m k. l .none-later (suc j) (omega arith) (omega arith) }
 
       go : (c : Bool) → drops (isOurs own s) x d r ≡ c
-          → ((u : Tables) (e : DiscoveryEntry) (q : RouteEntry) → Stands own s e q u → Last Marked (answers (hear own s) xs u) i
+          → ((u : Tables) (e : DiscoveryEntry) (q : RouteEntry) → Stands s e q u → Last Marked (answers (hear own s) xs u) i
           → RouteTo (s .responder) (via (replyAt xs i .sender) (replyAt xs i .cost) q) (final (hear own s) xs u))
           → RouteTo (s .responder) (via (replyAt xs i .sender) (replyAt xs i .cost) r) (final (hear own s) xs ((hear own s x t) .1))
       go true e rest = rw (is-dropped own s x t d r h e) (rest t d r h (rw (is-dropped own s x t d r h e) at rest-last))
@@ -251,7 +251,7 @@ module _ (own : Nwk) (s : Search) where
   same-hop true c d x = refl
   same-hop false c d x = refl
 
-  pub taken-or-dropped : (xs : List Heard) (t : Tables) (d : DiscoveryEntry) (r : RouteEntry) → Stands own s d r t
+  pub taken-or-dropped : (xs : List Heard) (t : Tables) (d : DiscoveryEntry) (r : RouteEntry) → Stands s d r t
       → (i : ℕ) → i < length xs
       → (answerAt (answers (hear own s) xs t) i .disposition ≡ taken (isOurs own s) d (replyAt xs i)) ⊎ (answerAt (answers (hear own s) xs t) i ≡ dropAnswer)
   unfolding answers
@@ -270,10 +270,10 @@ module _ (own : Nwk) (s : Search) where
     hop u (inr e) = inr e
 
     go : (c : Bool) → drops (isOurs own s) x d r ≡ c
-        → ((u : Tables) (e : DiscoveryEntry) (q : RouteEntry) → Stands own s e q u → Either u e) → Either ((hear own s x t) .1) d
+        → ((u : Tables) (e : DiscoveryEntry) (q : RouteEntry) → Stands s e q u → Either u e) → Either ((hear own s x t) .1) d
     go true e rest = rw (is-dropped own s x t d r h e) (rest t d r h)
     go false e rest =
         let k = done-known own s x t d r h in
-        let after : Stands own s (settled (x .cost) d) (k .0) ((hear own s x t) .1)
+        let after : Stands s (settled (x .cost) d) (k .0) ((hear own s x t) .1)
         = rw (is-taken own s x t d r h e) (record { discovery = done-discovery own s x t d r h; route = k .1 }) in
         hop ((hear own s x t) .1) (rest ((hear own s x t) .1) (settled (x .cost) d) (k .0) after)

@@ -19,7 +19,7 @@ use Rattle.standard.specs.Request.{newDiscovery}
 use Rattle.standard.specs.Begin.{ownDiscovery}
 use Rattle.standard.specs.Reply.{settled, replyOurs, replyTheirs, replyTo, reply}
 use Rattle.standard.specs.Tables.{Tables, InOrder}
-use Rattle.two_searches.specs.Streams.{Search, Heard, Answer, hear, answers, final, Merge, done, of-first, of-second, firsts, seconds, either}
+use Rattle.two_searches.specs.Streams.{Search, Heard, Answer, hear, answers, final, Merge, done, of-first, of-second, either, hearBoth}
 use Rattle.two_searches.specs.Conditions.{Conditions}
 use Rattle.two_searches.specs.Exactly.{dropAnswer}
 use Rattle.two_searches.proofs.Merged.{addresses-differ}
@@ -150,14 +150,14 @@ abbrev pub answer : RouteReplyDisposition → Update → Answer
 answer d u = record { disposition = d; update = u }
 
 -- relayed (and the way back to 1111 is made again), established, dropped, dropped, relayed, established
-pub six-answers : answers (either (hear own (search 0x1111 7 0x4444)) (hear own (search 0x0000 1 0x5555))) mixed tables
+pub six-answers : answers (hearBoth own (search 0x1111 7 0x4444) (search 0x0000 1 0x5555)) mixed tables
     ≡ inl (answer (Relay (nwk 0x2222) 9) (changed 0x1111 0x2222 5)) ∷ inr (answer Established (changed 0x5555 0x6666 12)) ∷ inr dropAnswer
     ∷ inl dropAnswer ∷ inl (answer (Relay (nwk 0x2222) 8) Same) ∷ inr (answer Established (changed 0x5555 0x8888 10)) ∷ []
 unfolding answers either hear reply replyTo replyOurs replyTheirs lookup put considered considering news
 six-answers = refl
 
 -- each logger's route is by the sender of its last reply taken
-pub six-end : final (either (hear own (search 0x1111 7 0x4444)) (hear own (search 0x0000 1 0x5555))) mixed tables
+pub six-end : final (hearBoth own (search 0x1111 7 0x4444) (search 0x0000 1 0x5555)) mixed tables
     ≡ record {
       routes = via (nwk 0x2222) 5 lost ∷ inUse ∷ via (nwk 0x8888) 8 (wanted 0x4444) ∷ via (nwk 0x8888) 10 (wanted 0x5555) ∷ [];
       discoveries = settled 10 ourFirst ∷ ourSecond ∷ settled 8 theirFirst ∷ theirSecond ∷ another ∷ [];

@@ -80,3 +80,7 @@ module _ {S X Y O P : Type 0} (f : X → S → O × S) (g : Y → S → P × S) 
     -- "and the tables end the same": as after one stream and then the other, in either order
     pub end : final either zs s ≡ final g ys (final f xs s)
     pub other-end : final either zs s ≡ final f xs (final g ys s)
+
+-- the step of a merge of replies to two searches
+abbrev pub hearBoth : Nwk → Search → Search → Heard ⊎ Heard → Tables → (Answer ⊎ Answer) × Tables
+hearBoth own a b = either (hear own a) (hear own b)
