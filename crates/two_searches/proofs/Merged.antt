@@ -9,11 +9,10 @@ use mathlib.Core.Path.{_≡_, refl, sym, ap, _∙_}
 use mathlib.Core.Logic.{_⊎_, inl, inr, _≢_}
 use mathlib.Core.Bool.{Bool, true, false, cond}
 use mathlib.Core.List.{List, [], _∷_}
-use mathlib.Core.Option.{Option, none}
+use mathlib.Core.Option.{none}
 use native.Mathlib.Omega.{arith}
 use borrow.Author.Tests.{eqb-false}
 use Rattle.types.specs.declared.Nwk.{Nwk}
-use Rattle.standard.specs.declared.RouteEntry.{RouteEntry}
 use Rattle.standard.specs.Ordered.{lookup}
 use Rattle.standard.specs.Route.{routeKey}
 use Rattle.standard.specs.Discovery.{discoveryKey}
@@ -21,8 +20,8 @@ use Rattle.standard.specs.Tables.{Tables}
 use Rattle.two_searches.specs.Streams.{Search, Heard, hear, final, Merge, AsAlone, hearBoth}
 use Rattle.two_searches.specs.Conditions.{searchKey, Conditions, Apart}
 use Rattle.two_searches.specs.Steps.{Independent}
-use Rattle.two_searches.proofs.Puts.{puts, Within, lookup-puts, puts-comm}
-use Rattle.two_searches.proofs.Touch.{Change, applied, View, isOurs, view, decide, carried, hear-is, RouteKeys, DiscoveryKeys, OwnKeys, own-keys}
+use Rattle.two_searches.proofs.Puts.{puts, lookup-puts, puts-comm}
+use Rattle.two_searches.proofs.Touch.{Change, applied, isOurs, view, decide, hear-is, RouteKeys, DiscoveryKeys, OwnKeys, own-keys}
 use Rattle.two_searches.proofs.Steps.{as-alone, same-end}
 
 -- two addresses are one if their numbers are

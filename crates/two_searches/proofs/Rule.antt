@@ -3,7 +3,7 @@
 use Prim.Native.Nat.{ℕ, zero, suc, _<_, _≤_}
 use mathlib.Core.Path.{_≡_, refl, sym, ap, _∙_}
 use mathlib.Core.Logic.{_⊎_, inl, inr, _≢_, _↔_}
-use mathlib.Core.Bool.{Bool, true, false, cond, _&&_, false≢true}
+use mathlib.Core.Bool.{Bool, true, false, cond, false≢true}
 use mathlib.Core.List.{List, [], _∷_}
 use mathlib.Core.Option.{Option, none, some}
 use native.Mathlib.Omega.{arith}
@@ -16,13 +16,13 @@ use Rattle.standard.specs.declared.DiscoveryEntry.{DiscoveryEntry}
 use Rattle.standard.specs.declared.RouteReplyDisposition.{RouteReplyDisposition}
 use Rattle.standard.specs.declared.RouteReplyDisposition.the-variants.{Drop, Established, Relay}
 use Rattle.standard.specs.Ordered.{lookup, put}
-use Rattle.standard.specs.Route.{routeKey, isActive, via, considered, routeOr}
+use Rattle.standard.specs.Route.{routeKey, isActive, via, considered}
 use Rattle.standard.specs.Discovery.{discoveryKey}
 use Rattle.standard.specs.Tables.{Tables}
-use Rattle.standard.specs.Reply.{Replied, dropped, settled, written, established, relayedTo, dropOurs, replyOurs, replyTheirs, replyTo, reply}
+use Rattle.standard.specs.Reply.{settled}
 use Rattle.flat_map.proofs.Compare.{below-or-not}
 use Rattle.flat_map.proofs.Ordered.{lookup-key, lookup-put-same, lookup-put-other}
-use Rattle.two_searches.specs.Streams.{Search, Heard, Answer, told, hear, answers, final}
+use Rattle.two_searches.specs.Streams.{Search, Heard, Answer, hear, answers, final}
 use Rattle.two_searches.specs.Conditions.{searchKey, HeldAs, RouteTo}
 use Rattle.two_searches.specs.Exactly.{replyAt, dropAnswer, answerAt, Beats, Last, Nowhere}
 use Rattle.two_searches.proofs.Puts.{lookup-put}
@@ -140,7 +140,7 @@ beats-fallen n x xs i l = (
     go h zero m = h .start
     go h (suc j) m = h .earlier j (omega arith)
 
-beats-stayed : (n : ℕ) (x : Heard) (xs : List Heard) (i : ℕ) → n ≤ x .cost → Beats n xs i ↔ Beats n (x ∷ xs) (suc i)
+pub beats-stayed : (n : ℕ) (x : Heard) (xs : List Heard) (i : ℕ) → n ≤ x .cost → Beats n xs i ↔ Beats n (x ∷ xs) (suc i)
 beats-stayed n x xs i l = (
   λ h. record { start = h .start; earlier = λ j m. go h j m },
   λ h. record { start = h .start; earlier = λ j m. h .earlier (suc j) (omega arith) },

@@ -1,12 +1,11 @@
 -- Under the conditions no reply makes or removes a row, and the rows stay in order: every row is put where one stands already.
 -- So no reply is refused for want of room, and the conditions hold after it as before.
-use Prim.Native.Nat.{ℕ, _≤_}
+use Prim.Native.Nat.{ℕ}
 use mathlib.Core.Path.{_≡_, refl, sym, ap, _∙_, subst}
-use mathlib.Core.Logic.{inl, inr, _≢_}
+use mathlib.Core.Logic.{inl, inr}
 use mathlib.Core.Bool.{Bool, true, false, cond}
 use mathlib.Core.List.{List, [], _∷_}
-use mathlib.Core.Option.{Option, some}
-use native.Mathlib.Omega.{arith}
+use mathlib.Core.Option.{some}
 use lib.Dec.{eqb}
 use lib.ListN.{length}
 use Rattle.types.specs.declared.Nwk.{Nwk}
@@ -18,7 +17,7 @@ use Rattle.flat_map.proofs.Ordered.{ascending-put, length-put, count-with-found
 use Rattle.two_searches.specs.Streams.{Search, Heard, hear}
 use Rattle.two_searches.specs.Conditions.{searchKey, Held, Known, ForeignKnown, Conditions, Fits}
 use Rattle.two_searches.proofs.Puts.{puts, Within, lookup-put}
-use Rattle.two_searches.proofs.Touch.{Change, applied, view, decide, hear-is, RouteKeys, OwnKeys, own-keys}
+use Rattle.two_searches.proofs.Touch.{Change, applied, view, decide, hear-is, RouteKeys, own-keys}
 use Rattle.two_searches.proofs.Merged.{addresses-differ}
 
 module _ {E : Type 0} (keyOf : E → ℕ) where

@@ -1,7 +1,7 @@
 -- Steps that do not disturb each other answer a merge as they answer their own streams,
 -- since a step of one stream can be moved past the whole of the other, one reply at a time.
 use mathlib.Core.Path.{_≡_, refl, sym, ap, _∙_}
-use mathlib.Core.Logic.{_⊎_, inl, inr}
+use mathlib.Core.Logic.{_⊎_}
 use mathlib.Core.List.{List, [], _∷_}
 use Rattle.two_searches.specs.Streams.{answers, final, Merge, done, of-first, of-second, firsts, seconds, either, AsAlone}
 use Rattle.two_searches.specs.Steps.{Independent}

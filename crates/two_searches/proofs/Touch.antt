@@ -1,7 +1,7 @@
 -- What a reply touches: it reads the search's discovery, the responder's route and, for another node's search, the originator's route;
 -- and whatever it puts, it puts under those same keys. Read off the rule by its cases.
 use Prim.Native.Nat.{ℕ}
-use mathlib.Core.Path.{_≡_, refl, sym, ap, _∙_}
+use mathlib.Core.Path.{_≡_, refl, _∙_}
 use mathlib.Core.Logic.{_⊎_, inl, inr, _≢_}
 use mathlib.Core.Bool.{Bool, true, false, cond}
 use mathlib.Core.List.{List, [], _∷_}
@@ -13,7 +13,7 @@ use Rattle.standard.specs.declared.RouteEntry.{RouteEntry}
 use Rattle.standard.specs.declared.DiscoveryEntry.{DiscoveryEntry}
 use Rattle.standard.specs.declared.Status.the-variants.{Inactive}
 use Rattle.standard.specs.declared.RouteReplyDisposition.the-variants.{Established, Relay}
-use Rattle.standard.specs.Ordered.{lookup, put}
+use Rattle.standard.specs.Ordered.{lookup}
 use Rattle.standard.specs.Route.{routeKey, unknownHop, newRoute, via, suits, considered, considering, news}
 use Rattle.standard.specs.Discovery.{discoveryKey}
 use Rattle.standard.specs.Tables.{Tables}

@@ -1,7 +1,7 @@
 -- The conditions can be met: worked tables with searches that meet them all, and a merge of six replies.
 -- Every answer and the end are found by computing the rule.
 use Prim.Native.Nat.{ℕ}
-use mathlib.Core.Path.{_≡_, refl, ap}
+use mathlib.Core.Path.{_≡_, refl}
 use mathlib.Core.Logic.{_⊎_, inl, inr, _≢_}
 use mathlib.Core.List.{List, [], _∷_}
 use native.Mathlib.Omega.{arith}
