@@ -45,9 +45,9 @@ hopTo n t = hopIn (lookup routeKey n (t .routes))
 abbrev left : Search → Search → List (Heard ⊎ Heard) → Tables
 left a b zs = final (hearBoth own a b) zs tables
 
--- the promise for one reply each, the first search's coming first
-abbrev Promise : Search → Search → Heard → Heard → Type 0
-Promise a b x y = AsAlone (hear own a) (hear own b) (x ∷ []) (y ∷ []) (inl x ∷ inr y ∷ []) tables
+-- the merge of one reply each, the first search's coming first, is as the streams alone
+abbrev Unmixed : Search → Search → Heard → Heard → Type 0
+Unmixed a b x y = AsAlone (hear own a) (hear own b) (x ∷ []) (y ∷ []) (inl x ∷ inr y ∷ []) tables
 
 -- "The responders differ from each other". Two searches for one logger: the dearer reply, coming later, replaces the cheaper route.
 pub cheaper-then-dearer : costTo 0x4444 (left (search 0x1111 7 0x4444) (search 0x3333 9 0x4444) (inl (from 0x6666 at 5) ∷ inr (from 0x7777 at 9) ∷ [])) ≡ 9
@@ -58,7 +58,7 @@ pub dearer-then-cheaper : costTo 0x4444 (left (search 0x1111 7 0x4444) (search 0
 unfolding final either hear reply replyTo replyOurs replyTheirs lookup put considered considering news
 dearer-then-cheaper = refl
 
-pub same-responder : Promise (search 0x1111 7 0x4444) (search 0x3333 9 0x4444) (from 0x6666 at 5) (from 0x7777 at 9) → ⊥
+pub same-responder : Unmixed (search 0x1111 7 0x4444) (search 0x3333 9 0x4444) (from 0x6666 at 5) (from 0x7777 at 9) → ⊥
 unfolding final either hear reply replyTo replyOurs replyTheirs lookup put considered considering news
 same-responder k = let z : _≡_ {A = ℕ} 9 5 = ap (costTo 0x4444) (k .other-end) in omega arith
 
@@ -71,7 +71,7 @@ pub way-back-then-way-to : costTo 0x3333 (left (search 0x1111 7 0x3333) (search 
 unfolding final either hear reply replyTo replyOurs replyTheirs lookup put considered considering news
 way-back-then-way-to = refl
 
-pub responder-is-other-originator : Promise (search 0x1111 7 0x3333) (search 0x3333 9 0x5555) (from 0x6666 at 9) (from 0x7777 at 9) → ⊥
+pub responder-is-other-originator : Unmixed (search 0x1111 7 0x3333) (search 0x3333 9 0x5555) (from 0x6666 at 9) (from 0x7777 at 9) → ⊥
 unfolding final either hear reply replyTo replyOurs replyTheirs lookup put considered considering news
 responder-is-other-originator k = let z : _≡_ {A = ℕ} 5 9 = ap (costTo 0x3333) (k .other-end) in omega arith
 
@@ -93,7 +93,7 @@ pub second-makes-way-back : hopTo 0x1111 (left (search 0x1111 7 0x4444) (search 
 unfolding final either hear reply replyTo replyOurs replyTheirs lookup put considered considering news
 second-makes-way-back = refl
 
-pub same-foreign-originator : Promise (search 0x1111 7 0x4444) (search 0x1111 8 0x5555) (from 0x7777 at 9) (from 0x7777 at 9) → ⊥
+pub same-foreign-originator : Unmixed (search 0x1111 7 0x4444) (search 0x1111 8 0x5555) (from 0x7777 at 9) (from 0x7777 at 9) → ⊥
 unfolding final either hear reply replyTo replyOurs replyTheirs lookup put considered considering news
 same-foreign-originator k = let z : _≡_ {A = ℕ} 0x2222 0x6666 = ap (hopTo 0x1111) (k .other-end) in omega arith
 
@@ -106,7 +106,7 @@ pub one-search-mixed : costTo 0x5555 (left (search 0x1111 7 0x4444) (search 0x11
 unfolding final either hear reply replyTo replyOurs replyTheirs lookup put considered considering news
 one-search-mixed = refl
 
-pub one-search : Promise (search 0x1111 7 0x4444) (search 0x1111 7 0x5555) (from 0x6666 at 5) (from 0x7777 at 9) → ⊥
+pub one-search : Unmixed (search 0x1111 7 0x4444) (search 0x1111 7 0x5555) (from 0x6666 at 5) (from 0x7777 at 9) → ⊥
 unfolding final either hear reply replyTo replyOurs replyTheirs lookup put considered considering news
 one-search k = let z : _≡_ {A = ℕ} 255 9 = ap (costTo 0x5555) (k .other-end) in omega arith
 

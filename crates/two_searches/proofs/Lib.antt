@@ -7,6 +7,7 @@ pub mod Rule
 pub mod Exact
 pub mod Own
 pub mod Sizes
+pub mod TwoSearches
+pub mod Lift
 pub mod Worked
 pub mod Edges
-pub mod Lift

@@ -2,7 +2,7 @@
 -- So no reply is refused for want of room, and the conditions hold after it as before.
 use Prim.Native.Nat.{ℕ}
 use mathlib.Core.Path.{_≡_, refl, sym, ap, _∙_, subst}
-use mathlib.Core.Logic.{inl, inr}
+use mathlib.Core.Logic.{_⊎_, inl, inr}
 use mathlib.Core.Bool.{Bool, true, false, cond}
 use mathlib.Core.List.{List, [], _∷_}
 use mathlib.Core.Option.{some}
@@ -14,7 +14,7 @@ use Rattle.standard.specs.Route.{routeKey}
 use Rattle.standard.specs.Discovery.{discoveryKey}
 use Rattle.standard.specs.Tables.{Tables, InOrder}
 use Rattle.flat_map.proofs.Ordered.{ascending-put, length-put, count-with-found}
-use Rattle.two_searches.specs.Streams.{Search, Heard, hear}
+use Rattle.two_searches.specs.Streams.{Search, Heard, hear, final, either, hearBoth}
 use Rattle.two_searches.specs.Conditions.{searchKey, Held, Known, ForeignKnown, Conditions, Fits}
 use Rattle.two_searches.proofs.Puts.{puts, Within, lookup-put}
 use Rattle.two_searches.proofs.Touch.{Change, applied, view, decide, hear-is, RouteKeys, own-keys}
@@ -134,3 +134,19 @@ module _ (own : Nwk) (a b : Search) (t : Tables) where
         routes-fit = rw (size .0) (f .routes-fit);
         discoveries-fit = rw (size .1) (f .discoveries-fit);
       }
+
+-- and so they do after any merge
+pub sizes-at-end : (own : Nwk) (a b : Search) (zs : List (Heard ⊎ Heard)) (t : Tables) → Conditions own a b t → InOrder t
+    → (length (final (hearBoth own a b) zs t .routes) ≡ length (t .routes))
+    × (length (final (hearBoth own a b) zs t .discoveries) ≡ length (t .discoveries))
+    × InOrder (final (hearBoth own a b) zs t)
+unfolding final either
+sizes-at-end own a b [] t c h = (refl, refl, h)
+sizes-at-end own a b (inl x ∷ zs) t c h =
+    let rest = sizes-at-end own a b zs ((hear own a x t) .1) (conditions-kept own a b t c a x) (in-order-kept own a x t h) in
+    let size = same-size own a b t c h x .0 in
+    (rest .0 ∙ size .0, rest .1 ∙ size .1, rest .2)
+sizes-at-end own a b (inr y ∷ zs) t c h =
+    let rest = sizes-at-end own a b zs ((hear own b y t) .1) (conditions-kept own a b t c b y) (in-order-kept own b y t h) in
+    let size = same-size own a b t c h y .1 in
+    (rest .0 ∙ size .0, rest .1 ∙ size .1, rest .2)

@@ -22,7 +22,9 @@ use Rattle.standard.specs.Tables.{Tables, InOrder}
 use Rattle.two_searches.specs.Streams.{Search, Heard, Answer, hear, answers, final, Merge, done, of-first, of-second, either, hearBoth}
 use Rattle.two_searches.specs.Conditions.{Conditions}
 use Rattle.two_searches.specs.Exactly.{dropAnswer}
+use Rattle.two_searches.specs.Promise.{Promise}
 use Rattle.two_searches.proofs.Merged.{addresses-differ}
+use Rattle.two_searches.proofs.TwoSearches.{two-searches}
 
 -- our own address
 abbrev pub own : Nwk
@@ -164,3 +166,7 @@ pub six-end : final (hearBoth own (search 0x1111 7 0x4444) (search 0x0000 1 0x55
     }
 unfolding final either hear reply replyTo replyOurs replyTheirs lookup put considered considering news
 six-end = refl
+
+-- and what the theorem promises of this merge, as of every other
+pub six-promise : Promise own (search 0x1111 7 0x4444) (search 0x0000 1 0x5555) theirStream ourStream mixed tables
+six-promise = two-searches own (search 0x1111 7 0x4444) (search 0x0000 1 0x5555) tables worked-in-order theirs-and-ours six
