@@ -50,11 +50,15 @@ abbrev Unmixed : Search → Search → Heard → Heard → Type 0
 Unmixed a b x y = AsAlone (hear own a) (hear own b) (x ∷ []) (y ∷ []) (inl x ∷ inr y ∷ []) tables
 
 -- "The responders differ from each other". Two searches for one logger: the dearer reply, coming later, replaces the cheaper route.
-pub cheaper-then-dearer : costTo 0x4444 (left (search 0x1111 7 0x4444) (search 0x3333 9 0x4444) (inl (from 0x6666 at 5) ∷ inr (from 0x7777 at 9) ∷ [])) ≡ 9
+pub cheaper-then-dearer :
+    costTo 0x4444 (left (search 0x1111 7 0x4444) (search 0x3333 9 0x4444) (inl (from 0x6666 at 5) ∷ inr (from 0x7777 at 9) ∷ []))
+    ≡ 9
 unfolding final either hear reply replyTo replyOurs replyTheirs lookup put considered considering news
 cheaper-then-dearer = refl
 
-pub dearer-then-cheaper : costTo 0x4444 (left (search 0x1111 7 0x4444) (search 0x3333 9 0x4444) (inr (from 0x7777 at 9) ∷ inl (from 0x6666 at 5) ∷ [])) ≡ 5
+pub dearer-then-cheaper :
+    costTo 0x4444 (left (search 0x1111 7 0x4444) (search 0x3333 9 0x4444) (inr (from 0x7777 at 9) ∷ inl (from 0x6666 at 5) ∷ []))
+    ≡ 5
 unfolding final either hear reply replyTo replyOurs replyTheirs lookup put considered considering news
 dearer-then-cheaper = refl
 
@@ -63,37 +67,50 @@ unfolding final either hear reply replyTo replyOurs replyTheirs lookup put consi
 same-responder k = let z : _≡_ {A = ℕ} 9 5 = ap (costTo 0x4444) (k .other-end) in omega arith
 
 -- ".. and from both originators". The responder of the one search began the other: the way back to it and the way to it are one route.
-pub way-to-then-way-back : costTo 0x3333 (left (search 0x1111 7 0x3333) (search 0x3333 9 0x5555) (inl (from 0x6666 at 9) ∷ inr (from 0x7777 at 9) ∷ [])) ≡ 5
+pub way-to-then-way-back :
+    costTo 0x3333 (left (search 0x1111 7 0x3333) (search 0x3333 9 0x5555) (inl (from 0x6666 at 9) ∷ inr (from 0x7777 at 9) ∷ []))
+    ≡ 5
 unfolding final either hear reply replyTo replyOurs replyTheirs lookup put considered considering news
 way-to-then-way-back = refl
 
-pub way-back-then-way-to : costTo 0x3333 (left (search 0x1111 7 0x3333) (search 0x3333 9 0x5555) (inr (from 0x7777 at 9) ∷ inl (from 0x6666 at 9) ∷ [])) ≡ 9
+pub way-back-then-way-to :
+    costTo 0x3333 (left (search 0x1111 7 0x3333) (search 0x3333 9 0x5555) (inr (from 0x7777 at 9) ∷ inl (from 0x6666 at 9) ∷ []))
+    ≡ 9
 unfolding final either hear reply replyTo replyOurs replyTheirs lookup put considered considering news
 way-back-then-way-to = refl
 
-pub responder-is-other-originator : Unmixed (search 0x1111 7 0x3333) (search 0x3333 9 0x5555) (from 0x6666 at 9) (from 0x7777 at 9) → ⊥
+pub responder-is-other-originator :
+    Unmixed (search 0x1111 7 0x3333) (search 0x3333 9 0x5555) (from 0x6666 at 9) (from 0x7777 at 9) → ⊥
 unfolding final either hear reply replyTo replyOurs replyTheirs lookup put considered considering news
 responder-is-other-originator k = let z : _≡_ {A = ℕ} 5 9 = ap (costTo 0x3333) (k .other-end) in omega arith
 
 -- The same of its own originator: the reply is relayed, and yet its sender is not the route that is left.
-pub own-originator-relayed : answers (hear own (search 0x1111 7 0x1111)) (from 0x6666 at 9 ∷ []) tables ≡ answer (Relay (nwk 0x2222) 9) (changed 0x1111 0x2222 5) ∷ []
+pub own-originator-relayed :
+    answers (hear own (search 0x1111 7 0x1111)) (from 0x6666 at 9 ∷ []) tables
+    ≡ answer (Relay (nwk 0x2222) 9) (changed 0x1111 0x2222 5) ∷ []
 unfolding answers hear reply replyTo replyOurs replyTheirs lookup put considered considering news
 own-originator-relayed = refl
 
-pub responder-is-own-originator : RouteTo (nwk 0x1111) (via (nwk 0x6666) 9 lost) (final (hear own (search 0x1111 7 0x1111)) (from 0x6666 at 9 ∷ []) tables) → ⊥
+pub responder-is-own-originator :
+    RouteTo (nwk 0x1111) (via (nwk 0x6666) 9 lost) (final (hear own (search 0x1111 7 0x1111)) (from 0x6666 at 9 ∷ []) tables) → ⊥
 unfolding final hear reply replyTo replyOurs replyTheirs lookup put considered considering news
 responder-is-own-originator e = let z : _≡_ {A = ℕ} 0x2222 0x6666 = ap hopIn e in omega arith
 
 -- "the originators differ unless both are us". Two searches of one other node: whichever is relayed first makes the way back.
-pub first-makes-way-back : hopTo 0x1111 (left (search 0x1111 7 0x4444) (search 0x1111 8 0x5555) (inl (from 0x7777 at 9) ∷ inr (from 0x7777 at 9) ∷ [])) ≡ 0x2222
+pub first-makes-way-back :
+    hopTo 0x1111 (left (search 0x1111 7 0x4444) (search 0x1111 8 0x5555) (inl (from 0x7777 at 9) ∷ inr (from 0x7777 at 9) ∷ []))
+    ≡ 0x2222
 unfolding final either hear reply replyTo replyOurs replyTheirs lookup put considered considering news
 first-makes-way-back = refl
 
-pub second-makes-way-back : hopTo 0x1111 (left (search 0x1111 7 0x4444) (search 0x1111 8 0x5555) (inr (from 0x7777 at 9) ∷ inl (from 0x7777 at 9) ∷ [])) ≡ 0x6666
+pub second-makes-way-back :
+    hopTo 0x1111 (left (search 0x1111 7 0x4444) (search 0x1111 8 0x5555) (inr (from 0x7777 at 9) ∷ inl (from 0x7777 at 9) ∷ []))
+    ≡ 0x6666
 unfolding final either hear reply replyTo replyOurs replyTheirs lookup put considered considering news
 second-makes-way-back = refl
 
-pub same-foreign-originator : Unmixed (search 0x1111 7 0x4444) (search 0x1111 8 0x5555) (from 0x7777 at 9) (from 0x7777 at 9) → ⊥
+pub same-foreign-originator :
+    Unmixed (search 0x1111 7 0x4444) (search 0x1111 8 0x5555) (from 0x7777 at 9) (from 0x7777 at 9) → ⊥
 unfolding final either hear reply replyTo replyOurs replyTheirs lookup put considered considering news
 same-foreign-originator k = let z : _≡_ {A = ℕ} 0x2222 0x6666 = ap (hopTo 0x1111) (k .other-end) in omega arith
 
@@ -102,7 +119,9 @@ pub one-search-alone : costTo 0x5555 (final (hear own (search 0x1111 7 0x5555)) 
 unfolding final hear reply replyTo replyOurs replyTheirs lookup put considered considering news
 one-search-alone = refl
 
-pub one-search-mixed : costTo 0x5555 (left (search 0x1111 7 0x4444) (search 0x1111 7 0x5555) (inl (from 0x6666 at 5) ∷ inr (from 0x7777 at 9) ∷ [])) ≡ 255
+pub one-search-mixed :
+    costTo 0x5555 (left (search 0x1111 7 0x4444) (search 0x1111 7 0x5555) (inl (from 0x6666 at 5) ∷ inr (from 0x7777 at 9) ∷ []))
+    ≡ 255
 unfolding final either hear reply replyTo replyOurs replyTheirs lookup put considered considering news
 one-search-mixed = refl
 
@@ -122,15 +141,20 @@ moved = nwk 0x0009
 abbrev beforeMove : Tables
 beforeMove = final (hear own (search 0x0000 1 0x5555)) (from 0x6666 at 9 ∷ []) tables
 
-pub not-moved : answers (hear own (search 0x0000 1 0x5555)) (from 0x7777 at 8 ∷ []) beforeMove ≡ answer Established (changed 0x5555 0x7777 8) ∷ []
+pub not-moved :
+    answers (hear own (search 0x0000 1 0x5555)) (from 0x7777 at 8 ∷ []) beforeMove
+    ≡ answer Established (changed 0x5555 0x7777 8) ∷ []
 unfolding answers final hear reply replyTo replyOurs replyTheirs lookup put considered considering news
 not-moved = refl
 
-pub address-moved : answers (hear moved (search 0x0000 1 0x5555)) (from 0x7777 at 8 ∷ []) beforeMove ≡ answer (Relay unknownHop 8) (changed 0x0000 0xFFFF 0) ∷ []
+pub address-moved :
+    answers (hear moved (search 0x0000 1 0x5555)) (from 0x7777 at 8 ∷ []) beforeMove
+    ≡ answer (Relay unknownHop 8) (changed 0x0000 0xFFFF 0) ∷ []
 unfolding answers final hear reply replyTo replyOurs replyTheirs lookup put considered considering news
 address-moved = refl
 
-pub address-moved-route : RouteTo own (via unknownHop 0 (newRoute own Inactive unknownHop)) (final (hear moved (search 0x0000 1 0x5555)) (from 0x7777 at 8 ∷ []) beforeMove)
+pub address-moved-route :
+    RouteTo own (via unknownHop 0 (newRoute own Inactive unknownHop)) (final (hear moved (search 0x0000 1 0x5555)) (from 0x7777 at 8 ∷ []) beforeMove)
 unfolding final hear reply replyTo replyOurs replyTheirs lookup put considered considering news
 address-moved-route = refl
 
@@ -145,7 +169,9 @@ pub no-expiry : costTo 0x4444 (final (hear own (search 0x1111 7 0x4444)) (from 0
 unfolding final hear reply replyTo replyOurs replyTheirs lookup put considered considering news
 no-expiry = refl
 
-pub expiry-between : costTo 0x4444 (final (hear own (search 0x1111 7 0x4444)) (from 0x7777 at 8 ∷ []) (swept 10000 beforeExpiry)) ≡ 9
+pub expiry-between :
+    costTo 0x4444 (final (hear own (search 0x1111 7 0x4444)) (from 0x7777 at 8 ∷ []) (swept 10000 beforeExpiry))
+    ≡ 9
 unfolding final hear reply replyTo replyOurs replyTheirs lookup put considered considering news
 expiry-between = refl
 
@@ -157,7 +183,9 @@ pub no-begin : costTo 0x5555 (final (hear own (search 0x0000 1 0x5555)) (from 0x
 unfolding final hear reply replyTo replyOurs replyTheirs lookup put considered considering news
 no-begin = refl
 
-pub begin-between : costTo 0x5555 (final (hear own (search 0x0000 1 0x5555)) (from 0x7777 at 12 ∷ []) (begin own 3 (nwk 0x5555) 10000 beforeBegin)) ≡ 12
+pub begin-between :
+    costTo 0x5555 (final (hear own (search 0x0000 1 0x5555)) (from 0x7777 at 12 ∷ []) (begin own 3 (nwk 0x5555) 10000 beforeBegin))
+    ≡ 12
 unfolding final hear reply replyTo replyOurs replyTheirs lookup put considered considering news begin
 begin-between = refl
 
@@ -175,7 +203,9 @@ responder-unknown = refl
 abbrev withoutWayBack : Tables
 withoutWayBack = record { routes = inUse ∷ wanted 0x4444 ∷ wanted 0x5555 ∷ []; discoveries = tables .discoveries }
 
-pub originator-unknown : length (final (hear own (search 0x1111 7 0x4444)) (from 0x6666 at 9 ∷ []) withoutWayBack .routes) ≡ 4
+pub originator-unknown :
+    length (final (hear own (search 0x1111 7 0x4444)) (from 0x6666 at 9 ∷ []) withoutWayBack .routes)
+    ≡ 4
 unfolding final hear reply replyTo replyOurs replyTheirs lookup put considered considering news
 originator-unknown = refl
 
