@@ -117,7 +117,7 @@ conditions-apart own a b t c =
     record {
       keys-apart = λ e.
           let bytes = c .ids-are-bytes in
-          c .two-searches (one-address (a .originator) (b .originator) (omega arith)) (omega arith);
+          c .pairs-differ (one-address (a .originator) (b .originator) (omega arith)) (omega arith);
       responders-apart = c .responders-differ;
       first-responder-apart = λ h. c .no-responder-is-originator .0 .1;
       second-responder-apart = λ h. c .no-responder-is-originator .1 .0;

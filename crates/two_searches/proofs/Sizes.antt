@@ -92,7 +92,7 @@ module _ (own : Nwk) (a b : Search) (t : Tables) where
   pub conditions-kept : Conditions own a b t → (s : Search) (x : Heard) → Conditions own a b ((hear own s x t) .1)
   conditions-kept c s x =
       record {
-        two-searches = c .two-searches;
+        pairs-differ = c .pairs-differ;
         ids-are-bytes = c .ids-are-bytes;
         held = (held-kept own s x t a (c .held .0), held-kept own s x t b (c .held .1));
         responders-differ = c .responders-differ;

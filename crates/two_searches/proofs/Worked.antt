@@ -81,7 +81,7 @@ pub theirs-and-ours : Conditions own (search 0x1111 7 0x4444) (search 0x0000 1 0
 unfolding lookup
 theirs-and-ours =
     record {
-      two-searches = λ e. omega arith;
+      pairs-differ = λ e. omega arith;
       ids-are-bytes = omega arith;
       held = ((theirFirst, refl), (ourFirst, refl));
       responders-differ = differ 0x4444 0x5555 (omega arith);
@@ -99,7 +99,7 @@ pub both-theirs : Conditions own (search 0x1111 7 0x4444) (search 0x3333 9 0x555
 unfolding lookup
 both-theirs =
     record {
-      two-searches = λ e. omega arith;
+      pairs-differ = λ e. omega arith;
       ids-are-bytes = omega arith;
       held = ((theirFirst, refl), (another, refl));
       responders-differ = differ 0x4444 0x5555 (omega arith);
@@ -117,7 +117,7 @@ pub both-ours : Conditions own (search 0x0000 2 0x4444) (search 0x0000 1 0x5555)
 unfolding lookup
 both-ours =
     record {
-      two-searches = λ e. omega arith;
+      pairs-differ = λ e. omega arith;
       ids-are-bytes = omega arith;
       held = ((ourSecond, refl), (ourFirst, refl));
       responders-differ = differ 0x4444 0x5555 (omega arith);

@@ -49,7 +49,7 @@ ForeignKnown own s t = s .originator ≢ own → Known (s .originator) t
 -- theorem that needs it; no reply reads or writes the store.
 pub record Conditions (own : Nwk) (a b : Search) (t : Tables) : Type 0 where
   -- "take two streams of replies for two searches": two pairs of originator and id, and an id is a byte
-  pub two-searches : a .originator ≡ b .originator → a .id ≢ b .id
+  pub pairs-differ : a .originator ≡ b .originator → a .id ≢ b .id
   pub ids-are-bytes : (a .id < 256) × (b .id < 256)
   -- "held in the discovery table"
   pub held : Held a t × Held b t
