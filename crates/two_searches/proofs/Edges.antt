@@ -1,5 +1,6 @@
 -- Where the promise ends: for each condition the smallest example without it, and what happens there, found by computing the rule.
--- Tables and searches are those of Worked, which meet every condition, with the one thing changed that the example is about.
+-- Tables and searches are those of Worked, which meet every condition, with the one thing changed that the example is about;
+-- OneBroken shows that all other conditions still hold.
 --
 -- Two conditions are wider than the merge needs, as `merged-apart` (Merged) shows: a responder may be its own search's originator, and it
 -- may be an originator that is us. The first is needed for the route that is left: `responder-is-own-originator`. For the second nothing
@@ -114,20 +115,20 @@ pub same-foreign-originator :
 unfolding final either hear reply replyTo replyOurs replyTheirs lookup put considered considering news
 same-foreign-originator k = let z : _≡_ {A = ℕ} 0x2222 0x6666 = ap (hopTo 0x1111) (k .other-end) in omega arith
 
--- "two searches". One search answered for two responders: the second's reply is dropped, since the residual is the first's cost.
-pub one-search-alone : costTo 0x5555 (final (hear own (search 0x1111 7 0x5555)) (from 0x7777 at 9 ∷ []) tables) ≡ 9
+-- "two searches". One search of ours answered for two responders: the second's reply is dropped, since the residual is the first's cost.
+pub one-search-alone : costTo 0x3333 (final (hear own (search 0x0000 1 0x3333)) (from 0x7777 at 9 ∷ []) tables) ≡ 9
 unfolding final hear reply replyTo replyOurs replyTheirs lookup put considered considering news
 one-search-alone = refl
 
 pub one-search-mixed :
-    costTo 0x5555 (left (search 0x1111 7 0x4444) (search 0x1111 7 0x5555) (inl (from 0x6666 at 5) ∷ inr (from 0x7777 at 9) ∷ []))
-    ≡ 255
+    costTo 0x3333 (left (search 0x0000 1 0x5555) (search 0x0000 1 0x3333) (inl (from 0x6666 at 5) ∷ inr (from 0x7777 at 9) ∷ []))
+    ≡ 5
 unfolding final either hear reply replyTo replyOurs replyTheirs lookup put considered considering news
 one-search-mixed = refl
 
-pub one-search : Unmixed (search 0x1111 7 0x4444) (search 0x1111 7 0x5555) (from 0x6666 at 5) (from 0x7777 at 9) → ⊥
+pub one-search : Unmixed (search 0x0000 1 0x5555) (search 0x0000 1 0x3333) (from 0x6666 at 5) (from 0x7777 at 9) → ⊥
 unfolding final either hear reply replyTo replyOurs replyTheirs lookup put considered considering news
-one-search k = let z : _≡_ {A = ℕ} 255 9 = ap (costTo 0x5555) (k .other-end) in omega arith
+one-search k = let z : _≡_ {A = ℕ} 5 9 = ap (costTo 0x3333) (k .other-end) in omega arith
 
 -- An id that is no byte could pass for another search's: 263 of 1110 has the key of 7 of 1111.
 pub no-byte : pairKey (nwk 0x1110) 263 ≡ pairKey (nwk 0x1111) 7
@@ -200,7 +201,7 @@ unfolding answers hear reply replyTo lookup
 responder-unknown = refl
 
 -- "and foreign originators". Without one the relay makes it: the table grows, and a full one would refuse the reply.
-abbrev withoutWayBack : Tables
+abbrev pub withoutWayBack : Tables
 withoutWayBack = record { routes = inUse ∷ wanted 0x4444 ∷ wanted 0x5555 ∷ []; discoveries = tables .discoveries }
 
 pub originator-unknown :

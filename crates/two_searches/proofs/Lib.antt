@@ -11,3 +11,4 @@ pub mod TwoSearches
 pub mod Lift
 pub mod Worked
 pub mod Edges
+pub mod OneBroken

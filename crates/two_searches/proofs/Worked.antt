@@ -73,7 +73,7 @@ pub worked-in-order : InOrder tables
 worked-in-order = record { routes = omega arith; discoveries = omega arith }
 
 -- two addresses that are numbered differently
-differ : (m n : ℕ) → m ≢ n → nwk m ≢ nwk n
+pub differ : (m n : ℕ) → m ≢ n → nwk m ≢ nwk n
 differ m n h = addresses-differ (nwk m) (nwk n) h
 
 -- another node's search and one of ours
