@@ -1,0 +1,14 @@
+pub mod Steps
+pub mod Packed
+pub mod Puts
+pub mod Touch
+pub mod Merged
+pub mod Rule
+pub mod Exact
+pub mod Own
+pub mod Sizes
+pub mod TwoSearches
+pub mod Lift
+pub mod Worked
+pub mod Edges
+pub mod OneBroken

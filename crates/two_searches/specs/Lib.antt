@@ -1,0 +1,5 @@
+pub mod Streams
+pub mod Conditions
+pub mod Exactly
+pub mod Promise
+pub mod Steps
