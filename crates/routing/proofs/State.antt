@@ -1,0 +1,27 @@
+-- The state's test tells its well-formedness, table by table, and the part for route search is well formed with it;
+-- a fresh state is well formed, and so is one whose search tables are put back well formed.
+use mathlib.Core.Path.{_≡_}
+use Rattle.standard.specs.Tells.{Tells}
+use Rattle.flat_map.proofs.Told.{both-told, told-as}
+use Rattle.route_table.proofs.Rows as routes
+use Rattle.discovery_table.proofs.Rows as discoveries
+use Rattle.record_table.proofs.Rows as records
+use Rattle.search_tables.specs.declared.SearchTables.{SearchTables}
+use Rattle.search_tables.specs.Packed as search
+use Rattle.routing.specs.declared.Routing.{Routing}
+use Rattle.routing.specs.State.{WellFormed, wellFormed, searchOf, withSearch}
+
+pub state-told : (s : Routing) → Tells (WellFormed s) (wellFormed s)
+unfolding wellFormed
+state-told s =
+    told-as
+    (λ p. record { routes = p .0; discoveries = p .1 .0; records = p .1 .1 })
+    (λ w. (w .routes, (w .discoveries, w .records)))
+    (both-told (routes.well-formed-told (s .«route_table»))
+    (both-told (discoveries.well-formed-told (s .«discovery_table»)) (records.well-formed-told (s .«route_record_table»))))
+
+pub search-formed : (s : Routing) → WellFormed s → search.WellFormed (searchOf s)
+search-formed s w = record { routes = w .routes; discoveries = w .discoveries }
+
+pub put-back : (s : Routing) (t : SearchTables) → WellFormed s → search.WellFormed t → WellFormed (withSearch s t)
+put-back s t w v = record { routes = v .routes; discoveries = v .discoveries; records = w .records }
