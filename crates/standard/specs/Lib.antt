@@ -13,3 +13,4 @@ pub mod Request
 pub mod Begin
 pub mod Record
 pub mod Time
+pub mod Calls
