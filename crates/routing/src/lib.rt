@@ -1,8 +1,11 @@
 // The routing state by value, and every call on it. Each call is a test of the state and a core form behind it, for proved callers.
+mod routes;
+
 use discovery_table::DiscoveryTable;
 use record_table::RecordTable;
 use route_begin::BeginAnswer;
 use route_begin::BeginStep;
+use route_calls::RouteAnswer;
 use route_reply::ReplyAnswer;
 use route_request::RequestAnswer;
 use route_table::RouteTable;
@@ -28,6 +31,23 @@ pub struct Routing {
     pub discovery_table: DiscoveryTable,
     pub route_record_table: RecordTable,
     pub request_sequence_number: u8,
+}
+
+// That a call is done or refused, and the state after it.
+pub struct DoneOutcome {
+    pub answer: RouteAnswer,
+    pub state: Routing,
+}
+
+// What a call that tells yes or no is answered.
+pub enum ToldAnswer {
+    Refused(Refusal),
+    Told(bool),
+}
+
+pub struct ToldOutcome {
+    pub answer: ToldAnswer,
+    pub state: Routing,
 }
 
 // A reply's answer, and the state after it.
