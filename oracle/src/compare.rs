@@ -279,14 +279,14 @@ pub fn run_script(program: &Program, script: &[u8]) -> Result<bool, String> {
 /// Prints the first difference, and the smallest script found that shows one.
 fn report(program: &Program, piece: Piece, found: &Difference) -> Result<(), String> {
     let line = piece.line_of_answer(found.place);
-    println!("first difference, at script line {}: {}", line + 1, String::from_utf8_lossy(&piece.lines[line]));
+    println!("first difference, at script line {}: {}", line + 1, piece.lines[line].escape_ascii());
     let side = |answer: &Option<String>| answer.clone().unwrap_or_else(|| "(no line)".to_owned());
     println!("  the Rust:    {}", side(&found.ours));
     println!("  the program: {}", side(&found.theirs));
     let small = program.cut_down(piece, found)?;
     println!("smallest script found, {} lines:", small.lines.len());
     for line in &small.lines {
-        println!("{}", String::from_utf8_lossy(line));
+        println!("{}", line.escape_ascii());
     }
     if let Some(left) = program.difference(&small)? {
         println!("its first difference, at its line {}:", small.line_of_answer(left.place) + 1);

@@ -18,6 +18,7 @@ pub mod clock;
 pub mod compare;
 pub mod draw;
 pub mod decision_calls;
+pub mod edges;
 pub mod generate;
 pub mod neighbour_calls;
 pub mod parse;

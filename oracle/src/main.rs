@@ -12,6 +12,7 @@ use oracle::world::World;
 const USAGE: &str = "usage:
   oracle rust < script > answers             the Rust's answers to a script
   oracle gen PROFILE SEED CALLS > script     a random script
+  oracle edges > script                      every call and every refusal at its edge
   oracle compare SEED CALLS [PROFILE,..] -- PROGRAM [ARGUMENT..]
                                              both sides on random scripts; stops at the first difference
   oracle same -- PROGRAM [ARGUMENT..] < script
@@ -39,6 +40,7 @@ fn command(arguments: &[String]) -> Result<bool, String> {
             let fault = Some(Fault::named(name).ok_or_else(|| unknown("fault", name, &FAULTS.map(|(n, _)| n)))?);
             answer(World { fault, ..World::default() })
         }
+        ["edges"] => finished(io::stdout().write_all(oracle::edges::script().as_bytes())),
         ["gen", profile, seed, calls] => generate(named(profile)?, number(seed)?, number(calls)?),
         ["compare", seed, calls, rest @ ..] => {
             let (profiles, program) = match rest {
