@@ -198,6 +198,8 @@ fn state_after(lines: &[Vec<u8>]) -> Vec<Vec<u8>> {
 pub struct Tally {
     pub calls: u64,
     pub answers: u64,
+    /// How many calls ran on the Rust's own microseconds.
+    pub in_micros: u64,
     /// How many calls were refused, by number; 0 stands for `bad`.
     pub refused: [u64; 12],
 }
@@ -227,12 +229,14 @@ impl Tally {
 
 fn piece(profile: Profile, seed: u64, calls: u64, tally: &mut Tally) -> Piece {
     let mut piece = Piece::default();
-    Generator::new(profile, seed).script(calls, |line, answer| {
+    let mut generator = Generator::new(profile, seed);
+    generator.script(calls, |line, answer| {
         piece.lines.push(line.to_vec());
         piece.answers.extend_from_slice(answer);
         tally.count(answer);
     });
-    tally.calls += piece.calls();
+    tally.calls += calls;
+    tally.in_micros += generator.in_micros;
     piece
 }
 
@@ -259,7 +263,7 @@ pub fn run(program: &Program, seed: u64, calls: u64, profiles: &[Profile]) -> Re
         tally.answers,
         tally.calls as f64 * 60.0 / seconds
     );
-    println!("of these {}", tally.refusals());
+    println!("of these {} in the Rust's own microseconds; {}", tally.in_micros, tally.refusals());
     Ok(true)
 }
 

@@ -4,7 +4,8 @@
 //! costs just below, at and above those stored, at times when an entry expires, at tables that are full.
 
 use crate::answer::Answer;
-use crate::clock::{LAST_IN_MICROS, NEVER};
+use crate::clock::{LAST_IN_MICROS, NEVER, Scale};
+use crate::parse::passed_over;
 use crate::world::World;
 use crate::{draw, words};
 use draw::Random;
@@ -76,9 +77,11 @@ pub struct Generator {
     pub profile: Profile,
     pub world: World,
     pub now: u64,
-    /// The line being written, and the answers so far.
+    /// The line being written, and its answer.
     pub line: Vec<u8>,
     pub answers: Answer,
+    /// How many calls so far ran on the Rust's own microseconds.
+    pub in_micros: u64,
     /// Whether the tables are being filled up.
     filling: bool,
     wheel: Vec<&'static str>,
@@ -100,6 +103,7 @@ impl Generator {
             now,
             line: Vec::new(),
             answers: Answer::default(),
+            in_micros: 0,
             filling: profile == Profile::Full,
             wheel: words::wheel(profile),
             pool,
@@ -126,7 +130,9 @@ impl Generator {
             self.answers.text.clear();
             self.world.line(&self.line, &mut self.answers);
             each(&self.line, &self.answers.text);
-            made += u64::from(!crate::parse::passed_over(&self.line));
+            let calls = u64::from(!passed_over(&self.line));
+            made += calls;
+            self.in_micros += if self.world.scale == Scale::Micros { calls } else { 0 };
         }
     }
 
@@ -249,8 +255,9 @@ impl Generator {
                 _ => self.below(50),
             };
         }
-        match self.random.below(60) {
-            0 => self.one_of(&[u64::MAX, left, left.saturating_add(1)]),
+        // Spans that reach the clock's end are mostly left to their own profile: they take a script off the microseconds.
+        match self.random.below(120) {
+            0 => self.one_of(&[u64::MAX, left.saturating_add(1)]),
             1 => 0,
             2..12 => 10_000,
             _ => self.below(200),

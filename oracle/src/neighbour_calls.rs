@@ -203,7 +203,7 @@ fn set_child_timeout(w: &mut World, a: &mut Args, out: &mut Answer) -> Done {
     ready(w, a)?;
     let until = match w.neighbors.end_device_child_eui64(nwk) {
         Some(_) => sum(now, span)?,
-        None => now.max(span),
+        None => now,
     };
     w.reach(until);
     let (span, now) = (w.scale.span(span), w.scale.moment(now));
@@ -279,7 +279,7 @@ fn next_child_timeout(w: &mut World, a: &mut Args, out: &mut Answer) -> Done {
 fn neighbour_room(w: &World, eui: Eui64) -> Done {
     let table = w.neighbors.peek_table();
     if table.len() >= NEIGHBOURS && !table.contains_key(&eui) {
-        return Err(Stop::Refuse(4));
+        return w.no_room(4);
     }
     Ok(())
 }

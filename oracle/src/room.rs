@@ -77,7 +77,7 @@ impl<'a> Expired<'a> {
         // Counting what is left is only needed where the table is full before the expiry.
         let full = self.world.routing.peek_routes().len() >= ROUTES;
         if full && !self.has_route(destination) && self.routes() >= ROUTES {
-            return Err(Stop::Refuse(1));
+            return self.world.no_room(1);
         }
         Ok(())
     }
@@ -86,7 +86,7 @@ impl<'a> Expired<'a> {
     pub fn discovery_room(&self, key: (Nwk, u8)) -> Result<(), Stop> {
         let full = self.world.routing.peek_discoveries().len() >= DISCOVERIES;
         if full && !self.has_discovery(key) && self.discoveries() >= DISCOVERIES {
-            return Err(Stop::Refuse(2));
+            return self.world.no_room(2);
         }
         Ok(())
     }
@@ -96,7 +96,7 @@ impl<'a> Expired<'a> {
 pub fn route_room(world: &World, destination: Nwk) -> Result<(), Stop> {
     let routes = world.routing.peek_routes();
     if routes.len() >= ROUTES && !routes.contains_key(&destination) {
-        return Err(Stop::Refuse(1));
+        return world.no_room(1);
     }
     Ok(())
 }
@@ -109,7 +109,7 @@ pub fn record_room(world: &World, source: Nwk, relays: &[Nwk]) -> Result<(), Sto
     new.sort_unstable();
     new.dedup();
     if records.len() + new.len() > RECORDS {
-        return Err(Stop::Refuse(3));
+        return world.no_room(3);
     }
     Ok(())
 }

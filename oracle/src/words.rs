@@ -1,5 +1,6 @@
 //! The words of the language: how often each profile says them, and with which numbers.
 
+use crate::clock::NEVER;
 use crate::generate::{Generator, Profile};
 use crate::types::Nwk;
 use crate::world::{DISCOVERIES, NEIGHBOURS, RECORDS, ROUTES, WAITING};
@@ -418,7 +419,8 @@ fn neighbour(g: &mut Generator, eui: u64) {
     let (nwk, kind, rx_on, configuration) = (g.address(), g.one_of(&[0, 1, 1, 2, 2]), g.flag(), g.below(65536));
     let (now, wait) = (g.now(), g.below(400));
     let timeout_at = now.saturating_add(wait);
-    let (period, relationship) = (g.span(), g.one_of(&[1, 1, 1, 5, 0, 2, 3, 4, 6, 7, 8, 9]));
+    let period = if g.profile == Profile::Clock { g.span() } else { g.one_of(&[0, 1, 400, 10_000, NEVER]) };
+    let relationship = g.one_of(&[1, 1, 1, 5, 0, 2, 3, 4, 6, 7, 8, 9]);
     let failures = g.one_of(&[0, 1, 254, 255]);
     g.n(eui).n(nwk).n(kind).n(rx_on).n(configuration).n(timeout_at).n(period);
     g.n(relationship).n(failures);

@@ -31,6 +31,8 @@ pub struct World {
     pub first_scale: Scale,
     /// Whether a `put_` line may have made the neighbours ill formed. No call of the Rust can.
     pub suspect: bool,
+    /// Whether tables grow as the Rust's do, to see what a refused call would have come to.
+    pub limitless: bool,
     /// A fault planted on purpose, to see whether a comparison finds it.
     pub fault: Option<Fault>,
 }
@@ -43,6 +45,7 @@ impl Default for World {
             scale: Scale::Micros,
             first_scale: Scale::Micros,
             suspect: false,
+            limitless: false,
             fault: None,
         }
     }
@@ -63,9 +66,15 @@ impl World {
         *self = Self {
             scale: self.first_scale,
             first_scale: self.first_scale,
+            limitless: self.limitless,
             fault: self.fault,
             ..Self::default()
         };
+    }
+
+    /// The refusal for want of room, unless the tables may grow.
+    pub fn no_room(&self, number: u8) -> Result<(), Stop> {
+        if self.limitless { Ok(()) } else { Err(Stop::Refuse(number)) }
     }
 
     /// Refusal 10, as far as the `put_` lines can bring it about: a stored cost above 7 or a ring that is not well formed.

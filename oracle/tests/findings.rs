@@ -142,4 +142,36 @@ fn neighbours() {
     // Coordinators are not advertised.
     let coordinator = "put_neighbour 5 51 0 1 0 1 1 0 0 3 0 9 9 9 1 0 0 0 0 0 0 0 0 0 0 0 0; link_status_entries";
     assert_eq!(last(coordinator), "ok 0");
+    // A sleeping router stays asleep; a sleeping end device does not.
+    assert!(last("upsert_child 5 51 1 0 9 1 1; on_link_status 0 5 51 9 1 1 7 0; device_capability 5") == "ok 1 1 0");
+    assert!(last("upsert_child 5 51 2 0 9 1 1; on_link_status 0 5 51 9 1 1 7 0; device_capability 5") == "ok 1 1 1");
+    // A known child keeps samples, configuration, keepalive, costs and time stamps.
+    let known = "put_neighbour 5 51 1 1 77 5 9 2 3 3 1 9 8 7 4 6 1 2 1 3 4 5 6 7 8 9 1; upsert_child 5 52 2 0 100 1 1000; neighbour_at 0";
+    assert_eq!(last(known), "ok 1 5 52 2 0 77 1100 100 1 3 3 1 9 8 7 4 6 1 2 1 3 4 5 6 7 8 9 1");
+    // The list of link statuses is not cut at 31, and the first neighbour of any kind takes the samples.
+    let mut many: String = (1..=40)
+        .map(|n| format!("put_neighbour {n} {n} 1 1 0 1 1 2 0 3 0 9 9 9 1 0 0 0 0 0 0 0 0 0 0 0 0; "))
+        .collect();
+    many.push_str("link_status_entries");
+    assert!(last(&many).starts_with("ok 40 1 7 1 2 7 1 "));
+    let first = "upsert_child 5 51 1 1 9 3 1; upsert_child 6 51 2 1 9 1 1; record_lqa 51 9; record_inbound_activity 51; neighbour_at 0";
+    assert_eq!(last(first), "ok 1 5 51 1 1 0 10 9 3 0 1 1 9 0 0 0 1 0 0 0 0 0 1 0 0 0 1 0");
+}
+
+#[test]
+fn clock_and_room() {
+    // The never-ending timeout.
+    assert_eq!(last("on_link_status 0 5 51 9 1 1 18446739778742256615 0"), "ok 0");
+    assert_eq!(last("on_link_status 0 5 51 9 1 1 18446739778742256616 0"), "refuse 5");
+    // Room for a record: distinct addresses without one, 33 at most.
+    let full: String = (1..=31).map(|n| format!("put_record {n} 0; ")).collect();
+    let relays: String = (1001..=1032).map(|n| format!(" {n}")).collect();
+    assert_eq!(last(&format!("{full}store_route_record 2000 32{relays}")), "ok 1");
+    assert_eq!(last(&format!("{full}put_record 32 0; store_route_record 2000 32{relays}")), "refuse 3");
+    assert_eq!(last(&format!("{full}put_record 32 0; store_route_record 1001 32{relays}")), "ok 1");
+    // Removing a route leaves discoveries and records; only Active routes decay or go out of use.
+    let left = "accept_route_request 10 1 50 5 3 0 1 9; put_record 10 1 5; remove_route 10; tables";
+    assert_eq!(told(left), "ok 1 1 10 5 3; ok; ok 1; put_counters 0 0 0; put_discovery 10 1 5 3 255 10 50; put_record 10 1 5; end");
+    assert_eq!(last("put_route 50 3 0 0 0 0 6 5 7 8; invalidate_via 6; decay_activity; route_at 0"), "ok 1 50 3 0 0 0 0 6 5 7 8");
+    assert_eq!(last("put_route 50 0 0 0 0 0 6 5 7 8; decay_activity; invalidate_via 6; route_at 0"), "ok 1 50 3 0 0 0 0 6 5 7 7");
 }

@@ -95,6 +95,50 @@ fn every_refusal_is_reached() {
     assert!(!all.contains("refuse 9\n"));
 }
 
+/// How many rows stand in the tables of routes, discoveries, records and neighbours.
+fn rows(world: &World) -> [usize; 4] {
+    let routing = &world.routing;
+    [
+        routing.peek_routes().len(),
+        routing.peek_discoveries().len(),
+        routing.peek_records().len(),
+        world.neighbors.peek_table().len(),
+    ]
+}
+
+/// The first of the refusals 1 to 4 that a state gives reason for.
+fn too_many(world: &World) -> Option<usize> {
+    let capacities = [64, 32, 64, 64];
+    (0..4).find(|&table| rows(world)[table] > capacities[table]).map(|table| table + 1)
+}
+
+/// Refusals 1 to 4 are given exactly when the Rust's own tables, left to grow, would pass the capacity.
+#[test]
+fn room_is_refused_exactly_when_the_rust_would_grow_past_it() {
+    let mut refused = [0; 5];
+    for seed in 0..6 {
+        let (mut world, mut out) = (World::default(), Answer::default());
+        for line in script(Profile::Full, seed, 5000).lines() {
+            out.text.clear();
+            world.line(line.as_bytes(), &mut out);
+            assert_eq!(too_many(&world), None, "{line}");
+            let number = (1..=4).find(|n| out.text == format!("refuse {n}\n").as_bytes());
+            let Some(number) = number else { continue };
+            // The refused call again, on a copy whose tables may grow.
+            let (mut copy, mut copied) = (World { limitless: true, ..World::default() }, Answer::default());
+            out.text.clear();
+            world.line(b"tables", &mut out);
+            for row in out.text.split(|&b| b == b'\n') {
+                copy.line(row, &mut copied);
+            }
+            copy.line(line.as_bytes(), &mut copied);
+            assert_eq!(too_many(&copy), Some(number), "{line}");
+            refused[number] += 1;
+        }
+    }
+    assert!(refused[1..].iter().all(|&count| count > 20), "{refused:?}");
+}
+
 #[test]
 fn stored_answers_are_the_rusts() {
     let scripts = concat!(env!("CARGO_MANIFEST_DIR"), "/../scripts");
