@@ -70,6 +70,7 @@ fn main() {
         let line = format!("#[allow(unused, clippy::all)]\n#[path = {file:?}]\npub mod {module};\n");
         if path.starts_with("nwk/") { &mut inner } else { &mut outer }.push_str(&line);
     }
-    let text = format!("{outer}\npub mod nwk {{\npub use crate::stand_ins::{{NwkDeviceType, commands, frame}};\n{inner}}}\n");
+    let text =
+        format!("{outer}\npub mod nwk {{\npub use crate::stand_ins::{{NwkDeviceType, commands, frame}};\n{inner}}}\n");
     fs::write(out.join("sources.rs"), text).unwrap_or_else(|e| stop(&format!("the module list: {e}")));
 }

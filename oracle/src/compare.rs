@@ -86,11 +86,7 @@ fn first_difference(ours: &[u8], theirs: &[u8]) -> Option<Difference> {
     for place in 0.. {
         let (x, y) = (a.next(), b.next());
         if x != y {
-            return Some(Difference {
-                place,
-                ours: text(x),
-                theirs: text(y),
-            });
+            return Some(Difference { place, ours: text(x), theirs: text(y) });
         }
     }
     None
@@ -247,11 +243,15 @@ pub fn run(program: &Program, seed: u64, calls: u64, profiles: &[Profile]) -> Re
     while tally.calls < calls {
         let profile = profiles[pieces % profiles.len()];
         let share = PIECE.min(calls / profiles.len() as u64 + 1).min(calls - tally.calls);
-        let piece_seed = seeds.next();
+        let piece_seed = seeds.draw();
         let piece = piece(profile, piece_seed, share, &mut tally);
         pieces += 1;
         if let Some(found) = program.difference(&piece)? {
-            println!("difference in profile {}, script: oracle gen {} {piece_seed} {share}", profile.name(), profile.name());
+            println!(
+                "difference in profile {}, script: oracle gen {} {piece_seed} {share}",
+                profile.name(),
+                profile.name()
+            );
             report(program, piece, &found)?;
             return Ok(false);
         }

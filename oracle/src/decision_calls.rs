@@ -11,11 +11,7 @@ use crate::world::{Call, RELAYS, World};
 type Done = Result<(), Stop>;
 
 /// Document 01: concentrator yes, force discovery no, longest source route 12.
-const DEFAULT: Policy = Policy {
-    is_concentrator: true,
-    force_route_discovery: false,
-    max_source_route: DEFAULT_LIMIT,
-};
+const DEFAULT: Policy = Policy { is_concentrator: true, force_route_discovery: false, max_source_route: DEFAULT_LIMIT };
 
 pub fn call(word: &[u8]) -> Option<Call> {
     Some(match word {
@@ -27,11 +23,7 @@ pub fn call(word: &[u8]) -> Option<Call> {
 }
 
 fn resolve_given(w: &mut World, a: &mut Args, out: &mut Answer) -> Done {
-    let policy = Policy {
-        is_concentrator: a.flag()?,
-        force_route_discovery: a.flag()?,
-        max_source_route: a.u8()?,
-    };
+    let policy = Policy { is_concentrator: a.flag()?, force_route_discovery: a.flag()?, max_source_route: a.u8()? };
     decide(w, a, policy, out)
 }
 
@@ -92,18 +84,11 @@ fn mode(a: &mut Args) -> Read<SendMode> {
     })
 }
 
-const FRAME_TYPES: [Option<NwkFrameType>; 4] = [
-    Some(NwkFrameType::Data),
-    Some(NwkFrameType::Command),
-    None,
-    Some(NwkFrameType::Interpan),
-];
+const FRAME_TYPES: [Option<NwkFrameType>; 4] =
+    [Some(NwkFrameType::Data), Some(NwkFrameType::Command), None, Some(NwkFrameType::Interpan)];
 
-const DISCOVER: [Option<NwkRouteDiscovery>; 3] = [
-    Some(NwkRouteDiscovery::Suppress),
-    Some(NwkRouteDiscovery::Enable),
-    Some(NwkRouteDiscovery::WithMulticast),
-];
+const DISCOVER: [Option<NwkRouteDiscovery>; 3] =
+    [Some(NwkRouteDiscovery::Suppress), Some(NwkRouteDiscovery::Enable), Some(NwkRouteDiscovery::WithMulticast)];
 
 /// The version has four bits and the reserved field two.
 fn header(a: &mut Args) -> Read<NwkHeader> {
@@ -132,10 +117,7 @@ fn header(a: &mut Args) -> Read<NwkHeader> {
 }
 
 fn source_route(a: &mut Args) -> Read<NwkSourceRoute> {
-    Ok(NwkSourceRoute {
-        relay_index: a.u8()?,
-        relays: a.list(Args::nwk)?,
-    })
+    Ok(NwkSourceRoute { relay_index: a.u8()?, relays: a.list(Args::nwk)? })
 }
 
 fn header_numbers(header: &NwkHeader, out: &mut Answer) {

@@ -79,7 +79,10 @@ fn routes(s: &mut Script) {
     s.line("reset").each(1..=63, |n| format!("restore_route {n} 21 5")).line("restore_route 64 21 5");
     s.line("restore_route 65 21 5").line("restore_route 64 22 6").line("note_relayed_discovery 65");
     s.line("begin_discovery 0 65 1000 10000").line("accept_route_request 65 1 1 21 5 0 1000 10000").line("tables");
-    s.line("put_route 65 0 0 0 0 0 21 5 0 0").line("remove_route 1").line("note_relayed_discovery 65").line("route_count");
+    s.line("put_route 65 0 0 0 0 0 21 5 0 0")
+        .line("remove_route 1")
+        .line("note_relayed_discovery 65")
+        .line("route_count");
 }
 
 fn searches(s: &mut Script) {
@@ -108,7 +111,9 @@ fn searches(s: &mut Script) {
     s.line("begin_discovery 0 202 1000 10000").line("accept_route_reply 0 0 1 202 21 255");
     s.line("accept_route_reply 0 0 1 202 22 255").line("accept_route_reply 0 0 1 202 22 254").line("tables");
     s.note("A sum at 2^64 - 1 and one past it.");
-    s.line("reset").line("begin_discovery 0 9 18446744073709551605 10").line("begin_discovery 0 9 18446744073709551605 11");
+    s.line("reset")
+        .line("begin_discovery 0 9 18446744073709551605 10")
+        .line("begin_discovery 0 9 18446744073709551605 11");
     s.line("accept_route_request 101 1 9 11 5 0 18446744073709551605 10");
     s.line("accept_route_request 102 1 9 11 5 0 18446744073709551605 11");
     s.note("A known pair makes no sum.");
@@ -118,7 +123,10 @@ fn searches(s: &mut Script) {
     s.line("begin_discovery 0 99 1000 10000").line("accept_route_request 101 1 201 11 5 0 1000 10000").line("tables");
     s.note("Room is judged after the expiry: the route to 64 is underway, and goes with its search.");
     s.line("put_route 64 1 0 0 0 0 65535 255 0 0").line("put_discovery 101 1 11 5 255 500 64");
-    s.line("begin_discovery 0 99 499 10000").line("begin_discovery 0 99 500 10000").line("route_status 64").line("route_count");
+    s.line("begin_discovery 0 99 499 10000")
+        .line("begin_discovery 0 99 500 10000")
+        .line("route_status 64")
+        .line("route_count");
     s.note("The 32nd and the 33rd discovery; then one that frees a place.");
     s.line("reset").each(1..=31, |n| format!("accept_route_request 101 {n} 201 11 5 0 {n} 1000"));
     s.line("accept_route_request 101 32 201 11 5 0 31 1000").line("accept_route_request 101 33 201 11 5 0 31 1000");
@@ -135,26 +143,41 @@ fn searches(s: &mut Script) {
 
 fn records(s: &mut Script) {
     s.line("reset").note("32 and 33 relays.");
-    s.line(&format!("store_route_record 500 {}", list(1000, 32))).line(&format!("store_route_record 500 {}", list(1000, 33)));
+    s.line(&format!("store_route_record 500 {}", list(1000, 32)))
+        .line(&format!("store_route_record 500 {}", list(1000, 33)));
     s.line("tables").note("The source among its relays, duplicates, an empty list.");
     s.line("store_route_record 9 1 9").line("store_route_record 9 1 9").line("store_route_record 9 3 1 2 1");
     s.line("store_route_record 8 0").line("store_route_record 8 0").line("tables");
     s.note("A limit of three: two relays, three relays; the default takes eleven and not twelve.");
-    s.line("reset").line("put_record 1 2 11 12").line("put_record 2 3 11 12 13").line("route_to 1 3").line("route_to 2 3");
-    s.line("route_to 1 2").line("route_to 1 0").line("put_record 3 0").line("route_to 3 0").line("restore_route 2 21 4");
-    s.line("route_to 2 3").line(&format!("put_record 4 {}", list(1000, 11))).line(&format!("put_record 5 {}", list(1000, 12)));
+    s.line("reset")
+        .line("put_record 1 2 11 12")
+        .line("put_record 2 3 11 12 13")
+        .line("route_to 1 3")
+        .line("route_to 2 3");
+    s.line("route_to 1 2")
+        .line("route_to 1 0")
+        .line("put_record 3 0")
+        .line("route_to 3 0")
+        .line("restore_route 2 21 4");
+    s.line("route_to 2 3")
+        .line(&format!("put_record 4 {}", list(1000, 11)))
+        .line(&format!("put_record 5 {}", list(1000, 12)));
     s.line("route_to_default 4").line("route_to_default 5").line("route_to 5 13").line("remove_route_record 5");
     s.line("remove_route_record 5").line("route_to 5 255").line("put_record 65535 0").line("route_to 65535 1");
     s.note("The 64th and the 65th record; room for the relays too.");
     s.line("reset").each(1..=62, |n| format!("put_record {n} 1 {n}")).line("store_route_record 70 2 71 72");
     s.line("store_route_record 70 1 71").line("store_route_record 73 0").line("store_route_record 73 1 71");
-    s.line("store_route_record 1 2 2 3").line("put_record 90 0").line("remove_route_record 1").line("store_route_record 73 0");
+    s.line("store_route_record 1 2 2 3")
+        .line("put_record 90 0")
+        .line("remove_route_record 1")
+        .line("store_route_record 73 0");
     s.line("tables").note("A record that no row can hold.");
     s.line(&format!("put_record 2 {}", list(1000, 32))).line(&format!("put_record 2 {}", list(1000, 33)));
 }
 
 fn decisions(s: &mut Script) {
-    s.line("reset").note("Nothing known: discovery, or discarded where it is suppressed; direct; hints; forced routes.");
+    s.line("reset")
+        .note("Nothing known: discovery, or discarded where it is suppressed; direct; hints; forced routes.");
     for discover in [0, 1, 2] {
         s.line(&format!("resolve_default 1 {}", header(discover, 77)));
     }
@@ -168,7 +191,10 @@ fn decisions(s: &mut Script) {
         s.line(&format!("resolve 1 0 1 5 {} {plain}", list(1000, count)));
         s.line(&format!("resolve 1 0 1 3 {} {plain}", list(1000, count)));
         s.line(&format!("resolve 1 0 1 0 0 2 1 0 1 1 0 0 0 0 77 0 30 1 0 0 0 1 5 {}", list(1000, count)));
-        let relayed = format!("clear_end_device_initiator_for_relay 0 2 1 0 1 1 0 0 1 0 77 0 30 1 0 0 0 1 5 {}", list(1000, count));
+        let relayed = format!(
+            "clear_end_device_initiator_for_relay 0 2 1 0 1 1 0 0 1 0 77 0 30 1 0 0 0 1 5 {}",
+            list(1000, count)
+        );
         s.line(&relayed);
     }
     s.note("Every field of the header comes back.");
@@ -202,41 +228,63 @@ fn neighbours(s: &mut Script) {
     s.note("A child through every call.");
     s.line("upsert_child 5 51 2 0 4000 1 1000").line("neighbour_count").line("neighbour_at 0").line("neighbour_at 1");
     s.line("contains 5").line("contains 6").line("device_capability 5").line("device_capability 6").line("is_child 5");
-    s.line("is_child 6").line("has_network_address 51").line("has_network_address 52").line("end_device_child_eui64 51");
+    s.line("is_child 6")
+        .line("has_network_address 51")
+        .line("has_network_address 52")
+        .line("end_device_child_eui64 51");
     s.line("sleepy_child_eui64 51").line("sleepy_children").line("end_device_child_count").line("end_device_children");
-    s.line("is_unconfirmed_end_device_child 5").line("next_child_timeout").line("link 51").line("link 52").line("lqa 5");
+    s.line("is_unconfirmed_end_device_child 5")
+        .line("next_child_timeout")
+        .line("link 51")
+        .line("link 52")
+        .line("lqa 5");
     s.line("lqa 6").line("record_lqa 51 10").line("record_lqa 51 200").line("lqa 5").line("incoming_link_cost 5");
     s.line("record_lqa 51 30").line("lqa 5").line("incoming_link_cost 5").line("record_lqa 51 250").line("lqa 5");
     s.line("incoming_link_cost 5").line("incoming_link_cost 6").line("link 51").line("record_outbound_activity 5");
     s.line("record_inbound_activity 51").line("record_transmit_failure 5").line("neighbour_at 0");
     s.line("reset_transmit_failures").line("set_child_timeout 51 9000 7 2000").line("set_child_timeout 52 9000 7 2000");
-    s.line("refresh_child_timeout 1 5 0 3000").line("refresh_child_timeout 1 6 1 51 3001").line("refresh_child_timeout 0 0 1");
+    s.line("refresh_child_timeout 1 5 0 3000")
+        .line("refresh_child_timeout 1 6 1 51 3001")
+        .line("refresh_child_timeout 0 0 1");
     s.line("neighbour_at 0").line("update_network_address 5 53").line("update_network_address 6 54").line("link 53");
     s.line("evict_timed_out_children 12000").line("evict_timed_out_children 12001").line("neighbour_count");
     s.note("A sum at 2^64 - 1 and one past it.");
-    s.line("upsert_child 5 51 2 1 1000 1 18446744073709550615").line("upsert_child 5 51 2 1 1001 1 18446744073709550615");
-    s.line("refresh_child_timeout 1 5 0 18446744073709550615").line("refresh_child_timeout 0 1 51 18446744073709550616");
+    s.line("upsert_child 5 51 2 1 1000 1 18446744073709550615")
+        .line("upsert_child 5 51 2 1 1001 1 18446744073709550615");
+    s.line("refresh_child_timeout 1 5 0 18446744073709550615")
+        .line("refresh_child_timeout 0 1 51 18446744073709550616");
     s.line("set_child_timeout 51 5 0 18446744073709551610").line("set_child_timeout 51 6 0 18446744073709551610");
     s.line("set_child_timeout 52 6 0 18446744073709551610").line("tables").line("take_child 5").line("take_child 5");
     s.note("Announced and claimed: 64 and 65 addresses; one confirmed child, one that is not, a router, one twice.");
     for word in ["process_parent_annce", "remove_claimed_children"] {
         s.line("reset").line(&format!("put_neighbour 5 51 {CHILD}")).line(&format!("put_neighbour 7 53 {ROUTER}"));
-        s.line("upsert_child 6 52 2 0 4000 3 1000").line("refresh_child_timeout 1 6 0 1000").line(&format!("{word} 65{}", " 5".repeat(65)));
+        s.line("upsert_child 6 52 2 0 4000 3 1000")
+            .line("refresh_child_timeout 1 6 0 1000")
+            .line(&format!("{word} 65{}", " 5".repeat(65)));
         s.line(&format!("{word} 6 6 5 7 9 6 5")).line(&format!("{word} 64{}", " 6".repeat(64))).line("tables");
     }
     s.note("The 64th and the 65th neighbour; 5 before 4.");
-    s.line("reset").each(1..=63, |n| format!("upsert_child {n} {n} 2 0 4000 1 1000")).line("upsert_child 64 64 2 0 4000 1 1000");
+    s.line("reset")
+        .each(1..=63, |n| format!("upsert_child {n} {n} 2 0 4000 1 1000"))
+        .line("upsert_child 64 64 2 0 4000 1 1000");
     s.line("upsert_child 65 65 2 0 4000 1 1000").line("upsert_child 64 65 1 1 4000 5 1000");
     s.line("upsert_child 65 65 2 0 18446744073709551615 1 1000").line("on_link_status 0 65 65 200 1 1 1000 0");
     s.line("on_link_status 0 64 65 200 1 1 1000 0").line("remove 1").line("on_link_status 0 65 65 200 1 1 1000 0");
     s.line(&format!("put_neighbour 66 66 {CHILD}")).line("neighbour_count").line("end_device_child_count");
     s.note("The 65th waiting sender pushes out the lowest address, and stays even if it is lower still.");
-    s.line("reset").each(101..=164, |n| format!("record_lqa {n} 9")).line("record_lqa 165 8").line("record_lqa 1 7").line("tables");
+    s.line("reset")
+        .each(101..=164, |n| format!("record_lqa {n} 9"))
+        .line("record_lqa 165 8")
+        .line("record_lqa 1 7")
+        .line("tables");
 }
 
 fn link_status(s: &mut Script) {
     s.line("reset").note("Waiting samples go to the new neighbour, with the quality given.");
-    s.line("record_lqa 51 10").line("record_lqa 51 20").line("on_link_status 0 5 51 30 1 1 1000 2 0 3 2 77 1 5").line("tables");
+    s.line("record_lqa 51 10")
+        .line("record_lqa 51 20")
+        .line("on_link_status 0 5 51 30 1 1 1000 2 0 3 2 77 1 5")
+        .line("tables");
     s.line("link_status_entries").line("any_live_router_link").line("expected_broadcast_relayers");
     s.note("A known neighbour: the waiting samples are thrown away, and the quality adds none.");
     s.line("put_waiting 51 1 1 9 0 0").line("on_link_status 0 5 51 30 0 1 1100 0").line("tables");
@@ -244,7 +292,9 @@ fn link_status(s: &mut Script) {
     s.line("on_link_status 0 5 99 30 0 1 1200 2 0 4 0 0 0 7").line("on_link_status 0 5 99 30 1 1 1300 2 0 0 0 0 6 7");
     s.line("on_link_status 0 5 99 30 1 1 1400 0").line("tables");
     s.note("A known end device becomes a router that listens.");
-    s.line(&format!("put_neighbour 6 52 {CHILD}")).line("on_link_status 0 6 52 30 1 1 1500 1 0 7 7").line("neighbour_at 1");
+    s.line(&format!("put_neighbour 6 52 {CHILD}"))
+        .line("on_link_status 0 6 52 30 1 1 1500 1 0 7 7")
+        .line("neighbour_at 1");
     s.note("Costs 7 and 8, 31 and 32 statuses, and 8 before 11.");
     s.line("on_link_status 0 6 52 30 1 1 1500 1 0 8 7").line("on_link_status 0 6 52 30 1 1 1500 1 0 7 8");
     for (count, cost) in [(31, 1), (32, 1), (32, 8)] {
@@ -253,7 +303,8 @@ fn link_status(s: &mut Script) {
     }
     s.note("The never-ending timeout: the last moment at which a new neighbour can be made, and one past it.");
     let last = u64::MAX - NEVER;
-    s.line(&format!("on_link_status 0 7 53 30 1 1 {} 0", last + 1)).line(&format!("on_link_status 0 7 53 30 1 1 {last} 0"));
+    s.line(&format!("on_link_status 0 7 53 30 1 1 {} 0", last + 1))
+        .line(&format!("on_link_status 0 7 53 30 1 1 {last} 0"));
     s.line(&format!("on_link_status 0 7 53 30 1 1 {} 0", last + 1)).line("tables");
 }
 
@@ -274,12 +325,36 @@ fn ill_formed(s: &mut Script) {
 fn lines(s: &mut Script) {
     s.line("reset").note("Lines that are no call, and lines that only just are.");
     let odd = [
-        "route", "Route_count", "route_count 1", "route_count ", " route_count", "route_at", "route_at 1 2", "route_at  1",
-        "route_at 18446744073709551615", "route_at 18446744073709551616", "route_at 00000000000000000000000000",
-        "route_at -1", "route_at +1", "route_at 1.0", "route_at 0x1", "route_at a", "next_hop 65535", "next_hop 65536",
-        "note_route_error 255", "note_route_error 256", "put_counters 1 2", "put_route 9 4 0 0 0 0 1 1 0 0",
-        "put_route 9 0 2 0 0 0 1 1 0 0", "put_route 9 0 0 0 0 0 1 1 4294967296 0", "store_route_record 1 2 3",
-        "store_route_record 1 1 2 3", "refresh_child_timeout 2 5 0 1000", "tables 1", "reset 0", "end",
+        "route",
+        "Route_count",
+        "route_count 1",
+        "route_count ",
+        " route_count",
+        "route_at",
+        "route_at 1 2",
+        "route_at  1",
+        "route_at 18446744073709551615",
+        "route_at 18446744073709551616",
+        "route_at 00000000000000000000000000",
+        "route_at -1",
+        "route_at +1",
+        "route_at 1.0",
+        "route_at 0x1",
+        "route_at a",
+        "next_hop 65535",
+        "next_hop 65536",
+        "note_route_error 255",
+        "note_route_error 256",
+        "put_counters 1 2",
+        "put_route 9 4 0 0 0 0 1 1 0 0",
+        "put_route 9 0 2 0 0 0 1 1 0 0",
+        "put_route 9 0 0 0 0 0 1 1 4294967296 0",
+        "store_route_record 1 2 3",
+        "store_route_record 1 1 2 3",
+        "refresh_child_timeout 2 5 0 1000",
+        "tables 1",
+        "reset 0",
+        "end",
     ];
     for line in odd {
         s.line(line);

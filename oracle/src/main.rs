@@ -60,9 +60,7 @@ fn command(arguments: &[String]) -> Result<bool, String> {
 }
 
 fn to_run(program: &[&str]) -> Program {
-    Program {
-        command: program.iter().map(|&part| part.to_owned()).collect(),
-    }
+    Program { command: program.iter().map(|&part| part.to_owned()).collect() }
 }
 
 fn unknown(kind: &str, name: &str, all: &[&str]) -> String {

@@ -375,11 +375,7 @@ fn on_link_status(w: &mut World, a: &mut Args, out: &mut Answer) -> Done {
     let until = if new { sum(now, NEVER)? } else { now };
     neighbour_room(w, eui)?;
     w.reach(until);
-    let command = NwkLinkStatusCommand {
-        is_first_frame,
-        is_last_frame,
-        link_statuses,
-    };
+    let command = NwkLinkStatusCommand { is_first_frame, is_last_frame, link_statuses };
     let moment = w.scale.moment(now);
     let lost = w.neighbors.on_link_status(own, eui, nwk, quality, &command, moment);
     if new && w.scale == Scale::Millis {
@@ -390,11 +386,7 @@ fn on_link_status(w: &mut World, a: &mut Args, out: &mut Answer) -> Done {
 }
 
 fn link_status(a: &mut Args) -> Result<NwkLinkStatus, Stop> {
-    Ok(NwkLinkStatus {
-        address: a.nwk()?,
-        incoming_cost: a.u8()?,
-        outgoing_cost: a.u8()?,
-    })
+    Ok(NwkLinkStatus { address: a.nwk()?, incoming_cost: a.u8()?, outgoing_cost: a.u8()? })
 }
 
 /// The one span that the Rust writes itself, in its own seconds, on a clock that counts milliseconds.
@@ -405,4 +397,3 @@ fn set_never_right(w: &mut World, eui: Eui64, until: u64) {
         entry.device_timeout = span;
     }
 }
-

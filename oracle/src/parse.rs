@@ -52,10 +52,8 @@ impl Args<'_> {
             if !digit.is_ascii_digit() {
                 return Err(Stop::Bad);
             }
-            value = value
-                .checked_mul(10)
-                .and_then(|tens| tens.checked_add(u64::from(digit - b'0')))
-                .ok_or(Stop::Bad)?;
+            value =
+                value.checked_mul(10).and_then(|tens| tens.checked_add(u64::from(digit - b'0'))).ok_or(Stop::Bad)?;
         }
         if value > most {
             return Err(Stop::Bad);

@@ -257,9 +257,7 @@ fn accept_route_request(w: &mut World, a: &mut Args, out: &mut Answer) -> Done {
         after.discovery_room(key)?;
     }
     let (now, span) = (w.scale.moment(now), w.scale.span(span));
-    let outcome = w
-        .routing
-        .accept_route_request(originator, id, destination, sender, cost, many_to_one, now, span);
+    let outcome = w.routing.accept_route_request(originator, id, destination, sender, cost, many_to_one, now, span);
     out.n(outcome.accepted).update(outcome.update);
     Ok(())
 }
@@ -274,9 +272,7 @@ fn accept_route_reply(w: &mut World, a: &mut Args, out: &mut Answer) -> Done {
     if relays && w.routing.route_status(responder).is_some() {
         room::route_room(w, originator)?;
     }
-    let outcome = w
-        .routing
-        .accept_route_reply(own, originator, id, responder, sender, cost);
+    let outcome = w.routing.accept_route_reply(own, originator, id, responder, sender, cost);
     match outcome.disposition {
         RouteReplyDisposition::Drop => out.n(0u8),
         RouteReplyDisposition::Established => out.n(1u8),

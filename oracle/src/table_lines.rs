@@ -41,12 +41,8 @@ fn put_counters(w: &mut World, a: &mut Args, _: &mut Answer) -> Done {
     Ok(())
 }
 
-const STATUSES: [Option<Status>; 4] = [
-    Some(Status::Active),
-    Some(Status::DiscoveryUnderway),
-    Some(Status::DiscoveryFailed),
-    Some(Status::Inactive),
-];
+const STATUSES: [Option<Status>; 4] =
+    [Some(Status::Active), Some(Status::DiscoveryUnderway), Some(Status::DiscoveryFailed), Some(Status::Inactive)];
 
 fn put_route(w: &mut World, a: &mut Args, _: &mut Answer) -> Done {
     let entry = RouteEntry {
@@ -102,11 +98,8 @@ fn put_record(w: &mut World, a: &mut Args, _: &mut Answer) -> Done {
     Ok(())
 }
 
-pub const DEVICE_TYPES: [Option<NwkDeviceType>; 3] = [
-    Some(NwkDeviceType::Coordinator),
-    Some(NwkDeviceType::Router),
-    Some(NwkDeviceType::EndDevice),
-];
+pub const DEVICE_TYPES: [Option<NwkDeviceType>; 3] =
+    [Some(NwkDeviceType::Coordinator), Some(NwkDeviceType::Router), Some(NwkDeviceType::EndDevice)];
 
 /// The relationship by its number. The Rust's type cannot be copied, so this is no list of values.
 pub fn relationship(a: &mut Args) -> Read<Relationship> {
@@ -140,11 +133,7 @@ fn relationship_number(relationship: &Relationship) -> u8 {
 }
 
 fn samples(a: &mut Args) -> Read<Samples> {
-    Ok(Samples {
-        count: a.u8()?,
-        next: a.u8()?,
-        values: [a.u8()?, a.u8()?, a.u8()?],
-    })
+    Ok(Samples { count: a.u8()?, next: a.u8()?, values: [a.u8()?, a.u8()?, a.u8()?] })
 }
 
 fn put_neighbour(w: &mut World, a: &mut Args, _: &mut Answer) -> Done {

@@ -31,12 +31,8 @@ const ROUTING: [&str; 23] = [
     "check",
 ];
 
-const SEARCH: [&str; 4] = [
-    "begin_discovery",
-    "begin_many_to_one_advertisement",
-    "accept_route_request",
-    "accept_route_reply",
-];
+const SEARCH: [&str; 4] =
+    ["begin_discovery", "begin_many_to_one_advertisement", "accept_route_request", "accept_route_reply"];
 
 const RECORD: [&str; 4] = ["store_route_record", "put_record", "route_to", "remove_route_record"];
 
@@ -121,14 +117,34 @@ pub fn write(g: &mut Generator, word: &str) {
             let threshold = g.one_of(&[0, 1, 2, 3, 5, 254, 255]);
             g.n(threshold);
         }
-        "route_status" | "next_hop" | "mark_discovery_failed" | "record_usage" | "invalidate_via" | "remove_route"
-        | "remove_route_record" | "note_source_routed_frame" | "note_relayed_discovery" | "route_to_default" | "link"
-        | "has_network_address" | "end_device_child_eui64" | "sleepy_child_eui64" | "record_inbound_activity" => {
+        "route_status"
+        | "next_hop"
+        | "mark_discovery_failed"
+        | "record_usage"
+        | "invalidate_via"
+        | "remove_route"
+        | "remove_route_record"
+        | "note_source_routed_frame"
+        | "note_relayed_discovery"
+        | "route_to_default"
+        | "link"
+        | "has_network_address"
+        | "end_device_child_eui64"
+        | "sleepy_child_eui64"
+        | "record_inbound_activity" => {
             let address = g.address();
             g.n(address);
         }
-        "lqa" | "incoming_link_cost" | "is_child" | "contains" | "device_capability" | "take_child"
-        | "is_unconfirmed_end_device_child" | "remove" | "record_outbound_activity" | "record_transmit_failure" => {
+        "lqa"
+        | "incoming_link_cost"
+        | "is_child"
+        | "contains"
+        | "device_capability"
+        | "take_child"
+        | "is_unconfirmed_end_device_child"
+        | "remove"
+        | "record_outbound_activity"
+        | "record_transmit_failure" => {
             let eui = g.eui();
             g.n(eui);
         }
@@ -463,8 +479,25 @@ pub fn spoil(g: &mut Generator) {
     let mut parts: Vec<String> = text.split(' ').map(str::to_owned).collect();
     let at = g.below(parts.len() as u64) as usize;
     let odd = [
-        "256", "65536", "4294967296", "18446744073709551615", "18446744073709551616", "2", "81", "007", "-1", "+1", "1.0",
-        "0x1", "", "1e3", "99999999999999999999999999999999", "\t1", "1\r", "1\0", "\u{e9}",
+        "256",
+        "65536",
+        "4294967296",
+        "18446744073709551615",
+        "18446744073709551616",
+        "2",
+        "81",
+        "007",
+        "-1",
+        "+1",
+        "1.0",
+        "0x1",
+        "",
+        "1e3",
+        "99999999999999999999999999999999",
+        "\t1",
+        "1\r",
+        "1\0",
+        "\u{e9}",
     ];
     match g.below(8) {
         0 => drop(parts.pop()),
@@ -478,4 +511,3 @@ pub fn spoil(g: &mut Generator) {
         g.line.push(0xFF);
     }
 }
-

@@ -54,11 +54,7 @@ impl Default for World {
 impl World {
     /// A world whose clock counts milliseconds from the start.
     pub fn in_millis() -> Self {
-        Self {
-            scale: Scale::Millis,
-            first_scale: Scale::Millis,
-            ..Self::default()
-        }
+        Self { scale: Scale::Millis, first_scale: Scale::Millis, ..Self::default() }
     }
 
     /// The fresh state. A planted fault stays.

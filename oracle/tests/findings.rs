@@ -38,7 +38,10 @@ fn requests() {
 #[test]
 fn begin_and_advertisement() {
     // Begin turns an Active route underway and keeps its fields.
-    assert_eq!(last("put_route 50 0 1 1 1 1 6 5 7 8; begin_discovery 0 50 1 9; route_at 0"), "ok 1 50 1 1 1 1 1 6 5 7 8");
+    assert_eq!(
+        last("put_route 50 0 1 1 1 1 6 5 7 8; begin_discovery 0 50 1 9; route_at 0"),
+        "ok 1 50 1 1 1 1 1 6 5 7 8"
+    );
     // A route removed by the same call's expiry is made new.
     let again = "put_route 50 1 1 1 1 1 6 5 7 8; put_discovery 9 1 1 1 1 5 50; begin_discovery 0 50 5 9; route_at 0";
     assert_eq!(last(again), "ok 1 50 1 0 0 0 0 65535 255 0 0");
@@ -48,7 +51,10 @@ fn begin_and_advertisement() {
     // One that expires exactly now is not live.
     assert_eq!(last("put_discovery 0 1 7 8 9 5 60; begin_discovery 0 50 5 18446744073709551615"), "refuse 5");
     // An advertisement may orphan the destination of the entry that it overwrites, and takes a route to 65532 with it.
-    assert_eq!(last("begin_discovery 0 50 1 9; put_counters 0 0 0; begin_many_to_one_advertisement 0 1 9; check"), "ok 2 50");
+    assert_eq!(
+        last("begin_discovery 0 50 1 9; put_counters 0 0 0; begin_many_to_one_advertisement 0 1 9; check"),
+        "ok 2 50"
+    );
     let broadcast = "put_route 65532 1 0 0 0 0 1 1 0 0; begin_many_to_one_advertisement 0 1 9; \
                      begin_many_to_one_advertisement 0 10 9; route_status 65532";
     assert_eq!(last(broadcast), "ok 0");
@@ -57,11 +63,16 @@ fn begin_and_advertisement() {
 #[test]
 fn replies() {
     // A relay writes over a cheaper Active route, and reports no update for it.
-    let over = "restore_route 50 7 2; accept_route_request 10 1 50 5 3 0 1 9; accept_route_reply 0 10 1 50 30 9; route_at 1";
+    let over =
+        "restore_route 50 7 2; accept_route_request 10 1 50 5 3 0 1 9; accept_route_reply 0 10 1 50 30 9; route_at 1";
     assert_eq!(told(over), "ok; ok 1 1 10 5 3; ok 2 5 9 0; ok 1 50 0 0 0 0 0 30 9 0 0");
     // Our own search compares with the residual; a dearer reply to a route not Active raises it.
-    assert_eq!(last("restore_route 50 7 2; put_discovery 0 1 7 0 9 99 50; accept_route_reply 0 0 1 50 30 8"), "ok 1 1 50 30 8");
-    let rises = "put_route 50 3 0 0 0 0 7 2 0 0; put_discovery 0 1 7 0 9 99 50; accept_route_reply 0 0 1 50 30 12; tables";
+    assert_eq!(
+        last("restore_route 50 7 2; put_discovery 0 1 7 0 9 99 50; accept_route_reply 0 0 1 50 30 8"),
+        "ok 1 1 50 30 8"
+    );
+    let rises =
+        "put_route 50 3 0 0 0 0 7 2 0 0; put_discovery 0 1 7 0 9 99 50; accept_route_reply 0 0 1 50 30 12; tables";
     assert!(told(rises).contains("put_discovery 0 1 7 0 12 99 50"));
     // 255 is never relayed, but establishes.
     let start = "put_route 50 1 0 0 0 0 7 2 0 0; put_discovery 10 1 7 0 255 99 50";
@@ -74,7 +85,10 @@ fn replies() {
     let changed = "begin_discovery 0 50 1 9; accept_route_reply 4 0 1 50 30 3; check; next_hop 0";
     assert_eq!(told(changed), "ok 1; ok 2 65535 3 1 0 65535 0; ok 1 0; refuse 6");
     // A responder need not be the destination sought.
-    assert_eq!(last("accept_route_request 10 1 50 5 3 0 1 9; restore_route 60 7 7; accept_route_reply 0 10 1 60 30 3"), "ok 2 5 3 0");
+    assert_eq!(
+        last("accept_route_request 10 1 50 5 3 0 1 9; restore_route 60 7 7; accept_route_reply 0 10 1 60 30 3"),
+        "ok 2 5 3 0"
+    );
 }
 
 #[test]
@@ -87,7 +101,10 @@ fn records_and_routes() {
     assert_eq!(last(deadline), "ok 1 90");
     assert_eq!(last(&deadline.replace("50 10", "50 90")), "ok 0");
     assert_eq!(last("put_route 50 1 1 1 1 1 6 5 7 8; restore_route 50 7 7; route_at 0"), "ok 1 50 0 0 0 0 0 7 7 0 0");
-    assert_eq!(last("put_route 50 2 0 0 0 0 6 5 7 8; record_usage 50; decay_activity; route_at 0"), "ok 1 50 2 0 0 0 0 6 5 8 9");
+    assert_eq!(
+        last("put_route 50 2 0 0 0 0 6 5 7 8; record_usage 50; decay_activity; route_at 0"),
+        "ok 1 50 2 0 0 0 0 6 5 8 9"
+    );
 }
 
 #[test]
@@ -133,7 +150,8 @@ fn neighbours() {
     let lost = "on_link_status 0 5 51 9 1 1 7 1 0 2 0; link 51; on_link_status 0 5 51 9 0 1 8 1 0 0 3";
     assert_eq!(told(lost), "ok 0; ok 1 5 2 0; ok 1 51");
     // Live links for diversity are judged before the call, the sender's own included.
-    let diversity = "on_link_status 0 5 51 9 1 1 7 1 0 2 0; on_link_status 0 5 51 9 1 1 8 2 51 1 1 60 1 1; neighbour_at 0";
+    let diversity =
+        "on_link_status 0 5 51 9 1 1 7 1 0 2 0; on_link_status 0 5 51 9 1 1 8 2 51 1 1 60 1 1; neighbour_at 0";
     assert!(last(diversity).ends_with(" 12 6 0 0 0"));
     // Only "end device" is asked of announced and claimed ones; a sleeping router child counts as sleepy.
     assert_eq!(last("upsert_child 5 51 2 0 9 2 1; remove_claimed_children 2 5 5"), "ok 1 5 51");
@@ -171,7 +189,16 @@ fn clock_and_room() {
     assert_eq!(last(&format!("{full}put_record 32 0; store_route_record 1001 32{relays}")), "ok 1");
     // Removing a route leaves discoveries and records; only Active routes decay or go out of use.
     let left = "accept_route_request 10 1 50 5 3 0 1 9; put_record 10 1 5; remove_route 10; tables";
-    assert_eq!(told(left), "ok 1 1 10 5 3; ok; ok 1; put_counters 0 0 0; put_discovery 10 1 5 3 255 10 50; put_record 10 1 5; end");
-    assert_eq!(last("put_route 50 3 0 0 0 0 6 5 7 8; invalidate_via 6; decay_activity; route_at 0"), "ok 1 50 3 0 0 0 0 6 5 7 8");
-    assert_eq!(last("put_route 50 0 0 0 0 0 6 5 7 8; decay_activity; invalidate_via 6; route_at 0"), "ok 1 50 3 0 0 0 0 6 5 7 7");
+    assert_eq!(
+        told(left),
+        "ok 1 1 10 5 3; ok; ok 1; put_counters 0 0 0; put_discovery 10 1 5 3 255 10 50; put_record 10 1 5; end"
+    );
+    assert_eq!(
+        last("put_route 50 3 0 0 0 0 6 5 7 8; invalidate_via 6; decay_activity; route_at 0"),
+        "ok 1 50 3 0 0 0 0 6 5 7 8"
+    );
+    assert_eq!(
+        last("put_route 50 0 0 0 0 0 6 5 7 8; decay_activity; invalidate_via 6; route_at 0"),
+        "ok 1 50 3 0 0 0 0 6 5 7 7"
+    );
 }

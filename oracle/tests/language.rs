@@ -56,11 +56,26 @@ fn each_kind_of_number_has_its_largest() {
         ("upsert_child 1 1 2 1 1 9 1", "upsert_child 1 1 3 1 1 9 1"),
         ("upsert_child 1 1 2 1 1 9 1", "upsert_child 1 1 2 1 1 10 1"),
         ("set_child_timeout 1 1 65535 1", "set_child_timeout 1 1 65536 1"),
-        ("resolve_default 0 3 15 2 1 1 1 1 1 1 3 1 1 1 1 0 0 0 0", "resolve_default 0 2 15 2 1 1 1 1 1 1 3 1 1 1 1 0 0 0 0"),
-        ("resolve_default 0 3 15 2 1 1 1 1 1 1 3 1 1 1 1 0 0 0 0", "resolve_default 0 3 16 2 1 1 1 1 1 1 3 1 1 1 1 0 0 0 0"),
-        ("resolve_default 0 3 15 2 1 1 1 1 1 1 3 1 1 1 1 0 0 0 0", "resolve_default 0 3 15 3 1 1 1 1 1 1 3 1 1 1 1 0 0 0 0"),
-        ("resolve_default 0 3 15 2 1 1 1 1 1 1 3 1 1 1 1 0 0 0 0", "resolve_default 0 3 15 2 1 1 1 1 1 1 4 1 1 1 1 0 0 0 0"),
-        ("resolve_default 0 3 15 2 1 1 1 1 1 1 3 1 1 1 1 0 0 0 0", "resolve_default 6 3 15 2 1 1 1 1 1 1 3 1 1 1 1 0 0 0 0"),
+        (
+            "resolve_default 0 3 15 2 1 1 1 1 1 1 3 1 1 1 1 0 0 0 0",
+            "resolve_default 0 2 15 2 1 1 1 1 1 1 3 1 1 1 1 0 0 0 0",
+        ),
+        (
+            "resolve_default 0 3 15 2 1 1 1 1 1 1 3 1 1 1 1 0 0 0 0",
+            "resolve_default 0 3 16 2 1 1 1 1 1 1 3 1 1 1 1 0 0 0 0",
+        ),
+        (
+            "resolve_default 0 3 15 2 1 1 1 1 1 1 3 1 1 1 1 0 0 0 0",
+            "resolve_default 0 3 15 3 1 1 1 1 1 1 3 1 1 1 1 0 0 0 0",
+        ),
+        (
+            "resolve_default 0 3 15 2 1 1 1 1 1 1 3 1 1 1 1 0 0 0 0",
+            "resolve_default 0 3 15 2 1 1 1 1 1 1 4 1 1 1 1 0 0 0 0",
+        ),
+        (
+            "resolve_default 0 3 15 2 1 1 1 1 1 1 3 1 1 1 1 0 0 0 0",
+            "resolve_default 6 3 15 2 1 1 1 1 1 1 3 1 1 1 1 0 0 0 0",
+        ),
     ];
     for (good, bad) in edges {
         assert!(answers(good).starts_with("ok"), "{good}: {}", answers(good));

@@ -18,7 +18,13 @@ fn p1_the_scale() {
 
 #[test]
 fn p2_the_median() {
-    let lines = ["upsert_child 5 51 1 1 1 1 1", "record_lqa 51 10", "record_lqa 51 200", "record_lqa 51 30", "incoming_link_cost 5"];
+    let lines = [
+        "upsert_child 5 51 1 1 1 1 1",
+        "record_lqa 51 10",
+        "record_lqa 51 200",
+        "record_lqa 51 30",
+        "incoming_link_cost 5",
+    ];
     assert_eq!(told(&lines), "ok; ok; ok; ok; ok 1 6");
     let more = [&lines[..], &["record_lqa 51 250", "incoming_link_cost 5"]].concat();
     assert_eq!(told(&more), "ok; ok; ok; ok; ok 1 6; ok; ok 1 1");
@@ -47,7 +53,8 @@ fn p5_relay_drop_relay() {
 #[test]
 fn p6_the_responder_is_the_originator() {
     let lines = [FIRST, SECOND, "accept_route_reply 0 4369 7 4369 21845 9", "next_hop 4369", "route_at 0"];
-    let expected = "ok 1 1 4369 8738 5; ok 1 0; ok 2 13107 9 1 4369 13107 5; ok 1 13107; ok 1 4369 0 0 0 0 0 13107 5 0 0";
+    let expected =
+        "ok 1 1 4369 8738 5; ok 1 0; ok 2 13107 9 1 4369 13107 5; ok 1 13107; ok 1 4369 0 0 0 0 0 13107 5 0 0";
     assert_eq!(told(&lines), expected);
 }
 
