@@ -16,6 +16,8 @@ pub enum Fault {
     OwnResidual,
     /// The originator's route is not considered again after the responder's was written, where both are one.
     Apart,
+    /// A reply is tested against its search's deadline, by the last time that any call gave.
+    LateReply,
     /// Every reply is dropped.
     DropReplies,
     /// An entry that expires exactly now is kept.
@@ -34,10 +36,11 @@ pub enum Fault {
     ClockStops,
 }
 
-pub const FAULTS: [(&str, Fault); 11] = [
+pub const FAULTS: [(&str, Fault); 12] = [
     ("equal-request", Fault::EqualRequest),
     ("own-residual", Fault::OwnResidual),
     ("apart", Fault::Apart),
+    ("late-reply", Fault::LateReply),
     ("drop-replies", Fault::DropReplies),
     ("late-expiry", Fault::LateExpiry),
     ("limit-reached", Fault::LimitReached),
@@ -119,6 +122,23 @@ impl Fault {
                 let (hop, cost) = (nwk(p.n[4]), p.n[5] as u8);
                 let route = w.routing.poke_routes().get_mut(&nwk(p.n[3]))?;
                 (route.next_hop_address, route.path_cost) = (hop, cost);
+            }
+            (Self::LateReply, "accept_route_reply", 6) => {
+                let key = (nwk(p.n[1]), p.n[2] as u8);
+                let deadline = w.scale.ms(w.routing.peek_discoveries().get(&key)?.expiration_time);
+                if deadline > w.latest {
+                    return None;
+                }
+                out.word("ok 0 0").line();
+            }
+            (Self::LateReply, word, len) => {
+                w.latest = *match (word, len) {
+                    ("accept_route_request", 8) => &p.n[6],
+                    ("begin_discovery", 4) => &p.n[2],
+                    ("discovery_deadline", 2) | ("begin_many_to_one_advertisement", 3) => &p.n[1],
+                    _ => return None,
+                };
+                return None;
             }
             (Self::DropReplies, "accept_route_reply", 6) => out.word("ok 0 0").line(),
             (Self::LateExpiry, "begin_discovery" | "accept_route_request" | "begin_many_to_one_advertisement", len) => {

@@ -33,6 +33,8 @@ pub struct World {
     pub suspect: bool,
     /// Whether tables grow as the Rust's do, to see what a refused call would have come to.
     pub limitless: bool,
+    /// The last time given; only a planted fault looks at it.
+    pub latest: u64,
     /// A fault planted on purpose, to see whether a comparison finds it.
     pub fault: Option<Fault>,
 }
@@ -46,6 +48,7 @@ impl Default for World {
             first_scale: Scale::Micros,
             suspect: false,
             limitless: false,
+            latest: 0,
             fault: None,
         }
     }
