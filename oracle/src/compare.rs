@@ -13,6 +13,13 @@ use crate::parse::passed_over;
 use crate::table_lines::tables;
 use crate::world::World;
 
+/// Prints a line. A reader who went away, as `head` does, is no fault.
+macro_rules! say {
+    ($($what:tt)*) => {
+        _ = writeln!(std::io::stdout(), $($what)*)
+    };
+}
+
 /// How many calls go to the program at once.
 pub const PIECE: u64 = 20_000;
 
@@ -247,7 +254,7 @@ pub fn run(program: &Program, seed: u64, calls: u64, profiles: &[Profile]) -> Re
         let piece = piece(profile, piece_seed, share, &mut tally);
         pieces += 1;
         if let Some(found) = program.difference(&piece)? {
-            println!(
+            say!(
                 "difference in profile {}, script: oracle gen {} {piece_seed} {share}",
                 profile.name(),
                 profile.name()
@@ -257,13 +264,13 @@ pub fn run(program: &Program, seed: u64, calls: u64, profiles: &[Profile]) -> Re
         }
     }
     let seconds = start.elapsed().as_secs_f64();
-    println!(
+    say!(
         "compared {} calls ({} answer lines) in {pieces} pieces, seed {seed}: 0 differences, {seconds:.1} s, {:.0} calls a minute",
         tally.calls,
         tally.answers,
         tally.calls as f64 * 60.0 / seconds
     );
-    println!("of these {} in the Rust's own microseconds; {}", tally.in_micros, tally.refusals());
+    say!("of these {} in the Rust's own microseconds; {}", tally.in_micros, tally.refusals());
     Ok(true)
 }
 
@@ -273,7 +280,7 @@ pub fn run_script(program: &Program, script: &[u8]) -> Result<bool, String> {
     let lines: Vec<Vec<u8>> = body.split(|&b| b == b'\n').map(<[u8]>::to_vec).collect();
     let piece = Piece::of(lines);
     let Some(found) = program.difference(&piece)? else {
-        println!("compared {} calls: 0 differences", piece.calls());
+        say!("compared {} calls: 0 differences", piece.calls());
         return Ok(true);
     };
     report(program, piece, &found)?;
@@ -283,19 +290,19 @@ pub fn run_script(program: &Program, script: &[u8]) -> Result<bool, String> {
 /// Prints the first difference, and the smallest script found that shows one.
 fn report(program: &Program, piece: Piece, found: &Difference) -> Result<(), String> {
     let line = piece.line_of_answer(found.place);
-    println!("first difference, at script line {}: {}", line + 1, piece.lines[line].escape_ascii());
+    say!("first difference, at script line {}: {}", line + 1, piece.lines[line].escape_ascii());
     let side = |answer: &Option<String>| answer.clone().unwrap_or_else(|| "(no line)".to_owned());
-    println!("  the Rust:    {}", side(&found.ours));
-    println!("  the program: {}", side(&found.theirs));
+    say!("  the Rust:    {}", side(&found.ours));
+    say!("  the program: {}", side(&found.theirs));
     let small = program.cut_down(piece, found)?;
-    println!("smallest script found, {} lines:", small.lines.len());
+    say!("smallest script found, {} lines:", small.lines.len());
     for line in &small.lines {
-        println!("{}", line.escape_ascii());
+        say!("{}", line.escape_ascii());
     }
     if let Some(left) = program.difference(&small)? {
-        println!("its first difference, at its line {}:", small.line_of_answer(left.place) + 1);
-        println!("  the Rust:    {}", side(&left.ours));
-        println!("  the program: {}", side(&left.theirs));
+        say!("its first difference, at its line {}:", small.line_of_answer(left.place) + 1);
+        say!("  the Rust:    {}", side(&left.ours));
+        say!("  the program: {}", side(&left.theirs));
     }
     Ok(())
 }
