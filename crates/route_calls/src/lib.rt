@@ -25,6 +25,7 @@ pub enum RouteAnswer {
     Done,
 }
 
+// What such a call leaves: where it is refused, the table as it came.
 pub struct RouteStep {
     pub answer: RouteAnswer,
     pub table: RouteTable,
@@ -36,6 +37,7 @@ pub struct Removed {
     pub table: RouteTable,
 }
 
+// How a route stands, where there is one.
 pub enum StatusAnswer {
     Absent,
     Is(Status),
@@ -55,7 +57,7 @@ pub enum Checked {
     Orphan(Nwk),
 }
 
-// No discovery of the way to a destination has brought one.
+// The search for a destination found no way: its route, whatever its status, is DiscoveryFailed.
 pub fn mark_discovery_failed(t: RouteTable, destination: Nwk) -> RouteTable
     requires { ⌜ WellFormed t ⌝ }
     ensures { λ r. ⌜ r ≡ tableOf (changeRoute (destination .0) (withStatus DiscoveryFailed) (rowsOf t)) ⌝ }
