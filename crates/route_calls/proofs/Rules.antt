@@ -3,11 +3,10 @@
 use Prim.Native.Nat.{ℕ, _≤_}
 use mathlib.Core.Bool.{Bool, true, false, cond}
 use mathlib.Core.List.{List}
-use mathlib.Core.Option.{Option, none, some}
+use mathlib.Core.Option.{Option}
 use mathlib.Core.Path.{_≡_, refl, sym, ap, _∙_}
 use lib.Dec.{leb}
 use lib.ListN.{length}
-use Rattle.types.specs.declared.Nwk.{Nwk}
 use Rattle.types.specs.declared.Refusal.the-variants.{RouteTableFull}
 use Rattle.standard.specs.declared.RouteEntry.{RouteEntry}
 use Rattle.standard.specs.declared.Status.{Status}
@@ -19,9 +18,9 @@ use Rattle.flat_map.proofs.Ordered.{lookup-key, length-put}
 use Rattle.route_table.specs.declared.RouteTable.{RouteTable}
 use Rattle.route_table.specs.declared.RouteLookup.the-variants.{Found, Missing}
 use Rattle.route_table.specs.Table.{blankRoute, WellFormed, rowsOf, tableOf, looked}
+use Rattle.route_table.proofs.Rows.{looked-found, looked-missing, table-view, table-fit}
 use Rattle.route_calls.specs.declared.RouteAnswer.the-variants.{Refused, Done}
 use Rattle.route_calls.specs.Answer.{stepTo}
-use Rattle.route_table.proofs.Rows.{looked-found, looked-missing, table-view, table-fit}
 
 -- a change that leaves the destination
 abbrev pub KeepsKey : (RouteEntry → RouteEntry) → Type 0

@@ -25,6 +25,7 @@ pub enum RouteAnswer {
     Done,
 }
 
+// What such a call leaves: where it is refused, the table as it came.
 pub struct RouteStep {
     pub answer: RouteAnswer,
     pub table: RouteTable,
@@ -36,6 +37,7 @@ pub struct Removed {
     pub table: RouteTable,
 }
 
+// How a route stands, where there is one.
 pub enum StatusAnswer {
     Absent,
     Is(Status),
@@ -55,7 +57,7 @@ pub enum Checked {
     Orphan(Nwk),
 }
 
-// No discovery of the way to a destination has brought one.
+// The search for a destination found no way: its route, whatever its status, is DiscoveryFailed.
 pub fn mark_discovery_failed(t: RouteTable, destination: Nwk) -> RouteTable
     requires { ⌜ WellFormed t ⌝ }
     ensures { λ r. ⌜ r ≡ tableOf (changeRoute (destination .0) (withStatus DiscoveryFailed) (rowsOf t)) ⌝ }
@@ -197,4 +199,56 @@ pub fn remove_route(t: RouteTable, destination: Nwk) -> Removed
         removed: true,
         table,
     }
+}
+
+// Whether a route is Active by a hop that is not known.
+fn lacks_hop(e: RouteEntry) -> bool
+    ensures { λ r. ⌜ r ≡ lacksHop e ⌝ }
+{
+    let s = e.status;
+    route_entry::is_active(s) & (e.next_hop_address.0 == UNKNOWN_HOP)
+}
+
+// Whether the check finds fault with a route.
+fn is_faulty(e: RouteEntry, discoveries: DiscoveryTable) -> bool
+    requires { ⌜ discovery.WellFormed discoveries ⌝ }
+    ensures { λ r. ⌜ r ≡ isFaulty (discovery.rowsOf discoveries) e ⌝ }
+{
+    if lacks_hop(e) {
+        return true;
+    }
+    let s = e.status;
+    if !route_entry::is_underway(s) {
+        return false;
+    }
+    let destination = e.destination;
+    !discovery_table::names(discoveries, destination)
+}
+
+// A faulty route's kind of fault, and its destination.
+fn fault_of(e: RouteEntry) -> Checked
+    ensures { λ r. ⌜ r ≡ faultOf e ⌝ }
+{
+    let destination = e.destination;
+    if lacks_hop(e) {
+        return Checked::UnknownHop(destination);
+    }
+    Checked::Orphan(destination)
+}
+
+// The first fault of the routes against the discoveries, in ascending order of destination.
+pub fn check(routes: RouteTable, discoveries: DiscoveryTable) -> Checked
+    requires { ⌜ WellFormed routes × discovery.WellFormed discoveries ⌝ }
+    ensures { λ r. ⌜ r ≡ checkedBy (firstFault (discovery.rowsOf discoveries) (rowsOf routes)) ⌝ }
+{
+    let n = routes.count;
+    let mut i: usize = 0;
+    while i < n {
+        let e = routes.entries[i];
+        if is_faulty(e, discoveries) {
+            return fault_of(e);
+        }
+        i += 1;
+    }
+    Checked::Sound
 }
