@@ -1,3 +1,4 @@
 pub mod State
 pub mod Search
 pub mod Routes
+pub mod Queries

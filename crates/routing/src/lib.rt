@@ -1,13 +1,19 @@
 // The routing state by value, and every call on it. Each call is a test of the state and a core form behind it, for proved callers.
+mod queries;
 mod routes;
 
+use discovery_table::Deadline;
+use discovery_table::DiscoveryLookup;
 use discovery_table::DiscoveryTable;
 use record_table::RecordTable;
 use route_begin::BeginAnswer;
 use route_begin::BeginStep;
+use route_calls::Checked;
 use route_calls::RouteAnswer;
+use route_calls::StatusAnswer;
 use route_reply::ReplyAnswer;
 use route_request::RequestAnswer;
+use route_table::RouteLookup;
 use route_table::RouteTable;
 use search_tables::SearchTables;
 use standard::ManyToOne;
@@ -48,6 +54,49 @@ pub enum ToldAnswer {
 pub struct ToldOutcome {
     pub answer: ToldAnswer,
     pub state: Routing,
+}
+
+// How a route stands, asked.
+pub enum StatusOutcome {
+    Refused(Refusal),
+    Answered(StatusAnswer),
+}
+
+// The next hop, asked.
+pub enum HopOutcome {
+    Refused(Refusal),
+    NoRoute,
+    Hop(Nwk),
+}
+
+// When a discovery is over, asked.
+pub enum DeadlineOutcome {
+    Refused(Refusal),
+    Answered(Deadline),
+}
+
+// How many rows a table has, asked.
+pub enum CountOutcome {
+    Refused(Refusal),
+    Answered(usize),
+}
+
+// The route at a place, asked.
+pub enum RouteAtOutcome {
+    Refused(Refusal),
+    Answered(RouteLookup),
+}
+
+// The discovery at a place, asked.
+pub enum DiscoveryAtOutcome {
+    Refused(Refusal),
+    Answered(DiscoveryLookup),
+}
+
+// The table check, asked.
+pub enum CheckOutcome {
+    Refused(Refusal),
+    Answered(Checked),
 }
 
 // A reply's answer, and the state after it.

@@ -57,7 +57,7 @@ impl Routing {
     }
 
     // The state as it came: it is not well formed.
-    fn refuse_done(self) -> DoneOutcome
+    pub(crate) fn refuse_done(self) -> DoneOutcome
         ensures { λ r. ⌜ r ≡ refusedDone self ⌝ }
     {
         DoneOutcome {

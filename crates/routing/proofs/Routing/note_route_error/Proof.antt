@@ -1,0 +1,28 @@
+-- A state that is not well formed is refused as it is; any other goes to the core form.
+-- Assumes nothing.
+use mathlib.Core.Path.{sym, _∙_}
+use borrow.Author.Needs.{needs}
+use borrow.Author.Tests.{not-true, not-false}
+use Rattle.routing.specs.Queries.{noteRouteError}
+use Rattle.routing.proofs.Routing.note_route_error.Statement.{statement}
+use Rattle.routing.proofs.Routing.note_route_error.Tie as tie
+
+well-formed-requires : tie.Need-well-formed-requires
+well-formed-requires c κs = search needs
+
+refuse-told-requires : tie.Need-refuse-told-requires
+refuse-told-requires c κs = search needs
+
+returns : tie.Need-returns
+unfolding noteRouteError
+returns c = rw (sym (c .before .before .well-formed .ensures) ∙ not-true _ (c .before .if1 .taken)) (c .refuse-told .ensures)
+
+note-route-error-core-requires : tie.Need-note-route-error-core-requires
+note-route-error-core-requires c κs = search needs
+
+returns-2 : tie.Need-returns-2
+unfolding noteRouteError
+returns-2 c = rw (sym (c .before .before .well-formed .ensures) ∙ not-false _ (c .before .if1 .left)) (c .note-route-error-core .ensures)
+
+pub note-route-error-spec : {M : Type 1} → statement M
+note-route-error-spec = tie.close (tie.spec well-formed-requires refuse-told-requires returns note-route-error-core-requires returns-2)

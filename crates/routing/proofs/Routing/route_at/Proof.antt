@@ -1,0 +1,26 @@
+-- A state that is not well formed is refused; any other is asked.
+-- Assumes nothing.
+use mathlib.Core.Path.{sym, _∙_}
+use borrow.Author.Needs.{needs}
+use borrow.Author.Tests.{not-true, not-false}
+use Rattle.routing.specs.Queries.{routeAt}
+use Rattle.routing.proofs.State.{state-told}
+use Rattle.routing.proofs.Routing.route_at.Statement.{statement}
+use Rattle.routing.proofs.Routing.route_at.Tie as tie
+
+well-formed-requires : tie.Need-well-formed-requires
+well-formed-requires c κs = search needs
+
+returns : tie.Need-returns
+unfolding routeAt
+returns c = rw (sym (c .before .well-formed .ensures) ∙ not-true _ (c .if1 .taken))
+
+entry-at-requires : tie.Need-entry-at-requires
+entry-at-requires c κs = state-told _ .fact (sym (c .before .before .well-formed .ensures) ∙ not-false _ (c .before .if1 .left)) .routes
+
+returns-2 : tie.Need-returns-2
+unfolding routeAt
+returns-2 c = rw (sym (c .before .before .before .well-formed .ensures) ∙ not-false _ (c .before .before .if1 .left), c .entry-at .ensures)
+
+pub route-at-spec : {M : Type 1} → statement M
+route-at-spec = tie.close (tie.spec well-formed-requires returns entry-at-requires returns-2)

@@ -1,0 +1,109 @@
+-- The exported calls that ask, and the two trigger counters: refusal 10 for a state that is not well formed.
+-- Document 01, "Route rules", "Refusal numbers", and the table check of "Modules, leaves first".
+-- Assumes nothing.
+use Prim.Native.Nat.{ℕ, _+_, min}
+use mathlib.Core.Bool.{cond}
+use lib.Dec.{leb}
+use lib.ListN.{length}
+use Rattle.types.specs.declared.Nwk.{Nwk}
+use Rattle.types.specs.declared.Refusal.the-variants.{StateIllFormed, UnknownNextHop}
+use Rattle.standard.specs.Calls.{statusAt, hopAt, firstFault}
+use Rattle.standard.specs.Discovery.{awaits}
+use Rattle.standard.specs.Query.{first, entryAt}
+use Rattle.route_table.specs.Table.{rowsOf, looked}
+use Rattle.discovery_table.specs.Table as discoveries
+use Rattle.discovery_table.specs.Table.{deadlineOf}
+use Rattle.route_calls.specs.declared.HopAnswer.{HopAnswer}
+use Rattle.route_calls.specs.declared.HopAnswer.the-variants as hop
+use Rattle.route_calls.specs.declared.RouteAnswer.the-variants as route-answer
+use Rattle.route_calls.specs.Answer.{statusAnswer, hopAnswer, checkedBy}
+use Rattle.routing.specs.declared.Routing.{Routing}
+use Rattle.routing.specs.declared.DoneOutcome.{DoneOutcome}
+use Rattle.routing.specs.declared.ToldAnswer.the-variants as told
+use Rattle.routing.specs.declared.ToldOutcome.{ToldOutcome}
+use Rattle.routing.specs.declared.StatusOutcome.{StatusOutcome}
+use Rattle.routing.specs.declared.StatusOutcome.the-variants as StatusOutcome
+use Rattle.routing.specs.declared.DeadlineOutcome.{DeadlineOutcome}
+use Rattle.routing.specs.declared.DeadlineOutcome.the-variants as DeadlineOutcome
+use Rattle.routing.specs.declared.CountOutcome.{CountOutcome}
+use Rattle.routing.specs.declared.CountOutcome.the-variants as CountOutcome
+use Rattle.routing.specs.declared.RouteAtOutcome.{RouteAtOutcome}
+use Rattle.routing.specs.declared.RouteAtOutcome.the-variants as RouteAtOutcome
+use Rattle.routing.specs.declared.DiscoveryAtOutcome.{DiscoveryAtOutcome}
+use Rattle.routing.specs.declared.DiscoveryAtOutcome.the-variants as DiscoveryAtOutcome
+use Rattle.routing.specs.declared.CheckOutcome.{CheckOutcome}
+use Rattle.routing.specs.declared.CheckOutcome.the-variants as CheckOutcome
+use Rattle.routing.specs.declared.HopOutcome.{HopOutcome}
+use Rattle.routing.specs.declared.HopOutcome.the-variants as hop-outcome
+use Rattle.routing.specs.Routes.{refusedDone, refusedTold}
+use Rattle.routing.specs.State.{wellFormed}
+
+-- the state with its two trigger counters replaced
+abbrev pub withTriggers : Routing → ℕ → ℕ → Routing
+withTriggers s errors failures = record {
+  «mtorr_route_errors» = errors;
+  «mtorr_delivery_failures» = failures;
+  «route_table» = s .«route_table»;
+  «discovery_table» = s .«discovery_table»;
+  «route_record_table» = s .«route_record_table»;
+  «request_sequence_number» = s .«request_sequence_number»;
+}
+
+-- How the route to a destination stands.
+unfoldable pub routeStatus : Routing → Nwk → StatusOutcome
+routeStatus s destination = cond (wellFormed s) (StatusOutcome.Answered (statusAnswer (statusAt (destination .0) (rowsOf (s .«route_table»))))) (StatusOutcome.Refused StateIllFormed)
+
+-- When the first live discovery of the way to a destination is over.
+unfoldable pub discoveryDeadline : Routing → Nwk → ℕ → DeadlineOutcome
+discoveryDeadline s destination now = cond (wellFormed s) (DeadlineOutcome.Answered (deadlineOf (first (awaits (destination .0) now) (discoveries.rowsOf (s .«discovery_table»))))) (DeadlineOutcome.Refused StateIllFormed)
+
+-- How many routes there are.
+unfoldable pub routeCount : Routing → CountOutcome
+routeCount s = cond (wellFormed s) (CountOutcome.Answered (length (rowsOf (s .«route_table»)))) (CountOutcome.Refused StateIllFormed)
+
+-- How many discoveries there are.
+unfoldable pub discoveryCount : Routing → CountOutcome
+discoveryCount s = cond (wellFormed s) (CountOutcome.Answered (length (discoveries.rowsOf (s .«discovery_table»)))) (CountOutcome.Refused StateIllFormed)
+
+-- The route at a place in ascending order, and nothing from the count on.
+unfoldable pub routeAt : Routing → ℕ → RouteAtOutcome
+routeAt s place = cond (wellFormed s) (RouteAtOutcome.Answered (looked (entryAt place (rowsOf (s .«route_table»))))) (RouteAtOutcome.Refused StateIllFormed)
+
+-- The discovery at a place in ascending order, and nothing from the count on.
+unfoldable pub discoveryAt : Routing → ℕ → DiscoveryAtOutcome
+discoveryAt s place = cond (wellFormed s) (DiscoveryAtOutcome.Answered (discoveries.looked (entryAt place (discoveries.rowsOf (s .«discovery_table»))))) (DiscoveryAtOutcome.Refused StateIllFormed)
+
+-- The table check: sound, or the first fault in ascending order of destination.
+unfoldable pub checkTables : Routing → CheckOutcome
+checkTables s = cond (wellFormed s) (CheckOutcome.Answered (checkedBy (firstFault (discoveries.rowsOf (s .«discovery_table»)) (rowsOf (s .«route_table»))))) (CheckOutcome.Refused StateIllFormed)
+
+-- "the hop to be returned, by the next hop look-up .., is 0xFFFF from an Active route": 6
+abbrev pub hopOutcome : HopAnswer → HopOutcome
+hopOutcome hop.NoRoute = hop-outcome.NoRoute
+hopOutcome (hop.Hop n) = hop-outcome.Hop n
+hopOutcome hop.Unknown = hop-outcome.Refused UnknownNextHop
+
+-- The next hop to a destination by its Active route.
+unfoldable pub nextHop : Routing → Nwk → HopOutcome
+nextHop s destination = cond (wellFormed s) (hopOutcome (hopAnswer (hopAt (destination .0) (rowsOf (s .«route_table»))))) (hop-outcome.Refused StateIllFormed)
+
+-- A route failure was heard: whether the signals reach the threshold. "the two trigger counters at 255. A trigger fires at or above its threshold."
+abbrev pub noteRouteErrorCore : Routing → ℕ → ToldOutcome
+noteRouteErrorCore s threshold = record { answer = told.Told (leb threshold (min (s .«mtorr_route_errors» + 1) 255)); state = withTriggers s (min (s .«mtorr_route_errors» + 1) 255) (s .«mtorr_delivery_failures») }
+
+unfoldable pub noteRouteError : Routing → ℕ → ToldOutcome
+noteRouteError s threshold = cond (wellFormed s) (noteRouteErrorCore s threshold) (refusedTold s)
+
+-- A delivery of our own failed: whether the signals reach the threshold. "the two trigger counters at 255. A trigger fires at or above its threshold."
+abbrev pub noteDeliveryFailureCore : Routing → ℕ → ToldOutcome
+noteDeliveryFailureCore s threshold = record { answer = told.Told (leb threshold (min (s .«mtorr_delivery_failures» + 1) 255)); state = withTriggers s (s .«mtorr_route_errors») (min (s .«mtorr_delivery_failures» + 1) 255) }
+
+unfoldable pub noteDeliveryFailure : Routing → ℕ → ToldOutcome
+noteDeliveryFailure s threshold = cond (wellFormed s) (noteDeliveryFailureCore s threshold) (refusedTold s)
+
+-- A many-to-one request went out: the signals are spent.
+abbrev pub resetMtorrTriggersCore : Routing → DoneOutcome
+resetMtorrTriggersCore s = record { answer = route-answer.Done; state = withTriggers s 0 0 }
+
+unfoldable pub resetMtorrTriggers : Routing → DoneOutcome
+resetMtorrTriggers s = cond (wellFormed s) (resetMtorrTriggersCore s) (refusedDone s)
