@@ -12,3 +12,4 @@ pub mod Lift
 pub mod Worked
 pub mod Edges
 pub mod OneBroken
+pub mod Exported

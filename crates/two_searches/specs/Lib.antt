@@ -3,3 +3,4 @@ pub mod Conditions
 pub mod Exactly
 pub mod Promise
 pub mod Steps
+pub mod Exported
