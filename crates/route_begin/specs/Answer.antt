@@ -3,7 +3,6 @@
 -- Assumes nothing.
 use Prim.Native.Nat.{ℕ}
 use mathlib.Core.Bool.{cond}
-use mathlib.Core.Path.{_≡_}
 use lib.Dec.{leb}
 use lib.ListN.{length}
 use Rattle.types.specs.declared.Nwk.{Nwk}
@@ -12,7 +11,6 @@ use Rattle.types.specs.declared.Refusal.the-variants.{RouteTableFull, Discovery
 use Rattle.types.specs.declared.Sum.{Sum}
 use Rattle.types.specs.declared.Sum.the-variants.{At, Past}
 use Rattle.types.specs.Clock.{timeSum}
-use Rattle.standard.specs.declared.DiscoveryEntry.{DiscoveryEntry}
 use Rattle.standard.specs.Begin.{begin, advertise}
 use Rattle.standard.specs.Discovery.{pairKey, discoveryKey}
 use Rattle.standard.specs.Expiry.{expired}
@@ -53,7 +51,3 @@ begun old own id destination now span = begunOn old own id destination now span 
 -- an advertisement always makes its sum
 unfoldable pub advertised : SearchTables → Nwk → ℕ → ℕ → ℕ → BeginStep
 advertised old own id now span = byTime old (timeSum now span) id (λ expires. advertise own id expires (expired now (tablesOf old)))
-
--- the discovery stands under the pair
-abbrev pub InKey : DiscoveryEntry → Nwk → ℕ → Type 0
-InKey d own id = discoveryKey d ≡ pairKey own id

@@ -9,8 +9,8 @@ use types::Sum;
 ghost use mathlib.Core.Path.{_≡_};
 ghost use Rattle.types.specs.Clock.{timeSum};
 ghost use Rattle.standard.specs.Begin.{advertise};
-ghost use Rattle.search_tables.specs.Packed.{WellFormed, tablesOf};
-ghost use Rattle.route_begin.specs.Answer.{refused, begunWith, byTime, begunOn, begun, advertised, InKey};
+ghost use Rattle.search_tables.specs.Packed.{WellFormed, tablesOf, InKey};
+ghost use Rattle.route_begin.specs.Answer.{refused, begunWith, byTime, begunOn, begun, advertised};
 ghost use Rattle.route_begin.specs.Marked.{marked, noted, beganNew};
 
 // What beginning is answered: a refusal, or the request id that goes into the command.

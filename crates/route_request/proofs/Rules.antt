@@ -18,11 +18,11 @@ use Rattle.standard.specs.Request.{Requested, accepting, flagged}
 use Rattle.standard.specs.Route.{routeKey, routeOr, considered}
 use Rattle.standard.specs.Tables.{Tables}
 use Rattle.search_tables.specs.declared.SearchTables.{SearchTables}
-use Rattle.search_tables.specs.Packed.{WellFormed, tablesOf, packed, Fits}
+use Rattle.search_tables.specs.Packed.{WellFormed, tablesOf, packed, Fits, InKey}
 use Rattle.search_tables.proofs.Packing.{search-view, search-fits, route-or-key, considered-key, flagged-key, routes-after, discoveries-after}
 use Rattle.route_request.specs.declared.RequestAnswer.the-variants.{Refused, Answered}
 use Rattle.route_request.specs.declared.RequestStep.{RequestStep}
-use Rattle.route_request.specs.Answer.{refused, answered, InKey}
+use Rattle.route_request.specs.Answer.{refused, answered}
 
 pub answered-by : (old : SearchTables) (x : Requested) (a b : Bool) → leb (length (x .tables .routes)) 64 ≡ a → leb (length (x .tables .discoveries)) 32 ≡ b
     → answered old x ≡ cond a (cond b (record { answer = Answered (x .accepted) (x .update); tables = packed (x .tables) }) (refused old DiscoveryTableFull)) (refused old RouteTableFull)

@@ -4,7 +4,6 @@
 use Prim.Native.Nat.{ℕ}
 use mathlib.Core.Bool.{cond}
 use mathlib.Core.Option.{Option}
-use mathlib.Core.Path.{_≡_}
 use lib.Dec.{leb}
 use lib.ListN.{length}
 use Rattle.types.specs.declared.Nwk.{Nwk}
@@ -13,7 +12,6 @@ use Rattle.types.specs.declared.Refusal.the-variants.{RouteTableFull, Discovery
 use Rattle.types.specs.declared.Sum.{Sum}
 use Rattle.types.specs.declared.Sum.the-variants.{At, Past}
 use Rattle.types.specs.Clock.{timeSum}
-use Rattle.standard.specs.declared.DiscoveryEntry.{DiscoveryEntry}
 use Rattle.standard.specs.declared.ManyToOne.{ManyToOne}
 use Rattle.standard.specs.Discovery.{pairKey, discoveryKey}
 use Rattle.standard.specs.Expiry.{expired}
@@ -52,7 +50,3 @@ requestedOn old originator id destination sender cost manyToOne now span t =
 unfoldable pub requested : SearchTables → Nwk → ℕ → Nwk → Nwk → ℕ → ManyToOne → ℕ → ℕ → RequestStep
 requested old originator id destination sender cost manyToOne now span =
     requestedOn old originator id destination sender cost manyToOne now span (expired now (tablesOf old))
-
--- the discovery stands under the pair
-abbrev pub InKey : DiscoveryEntry → Nwk → ℕ → Type 0
-InKey d originator id = discoveryKey d ≡ pairKey originator id

@@ -11,8 +11,8 @@ ghost use mathlib.Core.Option.{none, some};
 ghost use mathlib.Core.Path.{_≡_};
 ghost use Rattle.types.specs.Clock.{timeSum};
 ghost use Rattle.standard.specs.Request.{accepting, requestTo};
-ghost use Rattle.search_tables.specs.Packed.{WellFormed, tablesOf};
-ghost use Rattle.route_request.specs.Answer.{refused, answered, byTime, requestedOn, requested, InKey};
+ghost use Rattle.search_tables.specs.Packed.{WellFormed, tablesOf, InKey};
+ghost use Rattle.route_request.specs.Answer.{refused, answered, byTime, requestedOn, requested};
 
 // What a request is answered: a refusal, or whether it is accepted and what is reported.
 pub enum RequestAnswer {

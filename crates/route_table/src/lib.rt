@@ -11,7 +11,7 @@ ghost use lib.ListN.{length, take};
 ghost use Rattle.flat_map.specs.Seek.{placeOf};
 ghost use Rattle.standard.specs.Ordered.{lookup, put, remove, countWith};
 ghost use Rattle.standard.specs.Query.{entryAt};
-ghost use Rattle.standard.specs.Route.{isActive, routeKey, decayed, unlinked};
+ghost use Rattle.standard.specs.Route.{routeKey, decayed, unlinked};
 ghost use Rattle.route_table.specs.Table.{blankRoute, isBlank, OwnKeys, BlankFrom, WellFormed, wellFormed, rowsOf, tableOf, inserted, replaced, removed, looked};
 ghost use Rattle.standard.specs.Tells.{Tells};
 
@@ -45,17 +45,6 @@ fn blank() -> RouteEntry
     }
 }
 
-fn is_active(s: Status) -> bool
-    ensures { λ r. ⌜ r ≡ isActive s ⌝ }
-{
-    match s {
-        Status::Active => true,
-        Status::DiscoveryUnderway => false,
-        Status::DiscoveryFailed => false,
-        Status::Inactive => false,
-    }
-}
-
 // Whether an entry is the blank one.
 fn is_blank(e: RouteEntry) -> bool
     ensures { λ r. ⌜ r ≡ isBlank e ⌝ }
@@ -68,7 +57,8 @@ fn is_blank(e: RouteEntry) -> bool
                     & ((e.recent_activity == 0)
                         & (!e.no_route_cache
                             & (!e.many_to_one
-                                & (!e.route_record_required & (!e.expired & is_active(s)))))))))
+                                & (!e.route_record_required
+                                    & (!e.expired & route_entry::is_active(s)))))))))
 }
 
 // Whether each entry in use stands under its own destination.
@@ -273,7 +263,7 @@ fn decayed_entry(e: RouteEntry) -> RouteEntry
     ensures { λ r. ⌜ r ≡ decayed e ⌝ }
 {
     let s = e.status;
-    if !is_active(s) {
+    if !route_entry::is_active(s) {
         return e;
     }
     let mut f = e;
@@ -286,7 +276,7 @@ fn unlinked_entry(e: RouteEntry, hop: Nwk) -> RouteEntry
     ensures { λ r. ⌜ r ≡ unlinked hop e ⌝ }
 {
     let s = e.status;
-    if !is_active(s) {
+    if !route_entry::is_active(s) {
         return e;
     }
     if e.next_hop_address.0 != hop.0 {

@@ -1,7 +1,11 @@
 -- The two tables by value as ordered rows, and rows packed into tables.
 -- Assumes nothing.
+use Prim.Native.Nat.{ℕ}
+use mathlib.Core.Path.{_≡_}
+use Rattle.types.specs.declared.Nwk.{Nwk}
+use Rattle.standard.specs.declared.DiscoveryEntry.{DiscoveryEntry}
 use Rattle.standard.specs.Route.{routeKey}
-use Rattle.standard.specs.Discovery.{discoveryKey}
+use Rattle.standard.specs.Discovery.{pairKey, discoveryKey}
 use Rattle.standard.specs.Tables.{Tables}
 use Rattle.flat_map.specs.Table.{Fit}
 use Rattle.route_table.specs.Table as routes
@@ -22,3 +26,7 @@ packed t = record { routes = routes.tableOf (t .routes); discoveries = discoveri
 pub record Fits (t : Tables) : Type 0 where
   pub routes : Fit 64 routeKey routes.blankRoute (t .routes)
   pub discoveries : Fit 32 discoveryKey discoveries.blankDiscovery (t .discoveries)
+
+-- the discovery stands under the pair
+abbrev pub InKey : DiscoveryEntry → Nwk → ℕ → Type 0
+InKey d source id = discoveryKey d ≡ pairKey source id
