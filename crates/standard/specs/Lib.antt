@@ -12,3 +12,4 @@ pub mod Reply
 pub mod Request
 pub mod Begin
 pub mod Record
+pub mod Records
