@@ -2,3 +2,4 @@ pub mod Cells
 pub mod Rows
 pub mod Shifts
 pub mod Agree
+pub mod Packing

@@ -45,12 +45,12 @@ rows-flat (r ∷ rows) (suc n) w h =
     (λ z. take-at r (flat rows) 32 (w .0) z ∷ rowsIn n (drop-at r (flat rows) 32 (w .0) z))
     ∙ cons r (rows-flat rows n (w .1) (omega arith))
 
-pub row-is : (n i : ℕ) (s : List ℕ) → i < n → getD (rowsIn n s) i [] ≡ rowAt i s
+pub row-is : (n i : ℕ) (s d : List ℕ) → i < n → getD (rowsIn n s) i d ≡ rowAt i s
 unfolding rowsIn
-row-is zero i s h = absurd (not-suc-le-zero h)
-row-is (suc n) zero s h = refl
-row-is (suc n) (suc i) s h =
-    row-is n i (drop 32 s) (le-of-suc-le-suc h)
+row-is zero i s d h = absurd (not-suc-le-zero h)
+row-is (suc n) zero s d h = refl
+row-is (suc n) (suc i) s d h =
+    row-is n i (drop 32 s) d (le-of-suc-le-suc h)
     ∙ ap (take 32) (drop-drop (32 * i) 32 s)
     ∙ ap (λ (k : ℕ). take 32 (drop k s)) (next i) where
       next : (i : ℕ) → 32 + 32 * i ≡ 32 * suc i
@@ -94,10 +94,10 @@ module _ (row : List ℕ) (w : length row ≡ 32) where
   -- the frame: every other row is as it was
   pub row-kept : (n i j : ℕ) (s : List ℕ) → i < n → j < n → length s ≡ 32 * n → (j ≡ i → ⊥) → rowAt j (withRow i row s) ≡ rowAt j s
   row-kept n i j s h g l d =
-      sym (row-is n j (withRow i row s) g)
+      sym (row-is n j (withRow i row s) [] g)
       ∙ ap (λ (rows : List (List ℕ)). getD rows j []) (rows-with-row n i s h l)
       ∙ getD-set-other (rowsIn n s) i j row [] d
-      ∙ row-is n j s g
+      ∙ row-is n j s [] g
 
 -- a part lent from 32 times the row on is that row, and what lies after it begins with the next
 span : (i : ℕ) → 32 * i + 32 - 32 * i ≡ 32

@@ -33,7 +33,7 @@ module _ (s : List ℕ) (places : length s ≡ 2048) (i : ℕ) (h : i < 64) (l :
   read-again =
       ap (λ (x : RelayList). rowOf (relaysOf x)) e
       ∙ row-again (rowAt i s) (wide-row 64 i s (omega arith) h)
-      ∙ sym (row-is 64 i s h)
+      ∙ sym (row-is 64 i s [] h)
 
   pub read-few : l .count ≤ 32
   read-few =
