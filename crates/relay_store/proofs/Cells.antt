@@ -1,10 +1,10 @@
 -- A row filled number by number, and a list read number by number: each turn makes the part that is done one longer,
 -- and a row read whole and written again is the same row.
-use Prim.Native.Nat.{ℕ, zero, suc, _+_, _<_, _≤_, min}
+use Prim.Native.Nat.{ℕ, zero, suc, _+_, _<_, _≤_}
 use native.Mathlib.Nat.{le-of-suc-le-suc, not-suc-le-zero}
 use native.Mathlib.Numerals.{add-one}
 use native.Mathlib.Omega.{arith}
-use mathlib.Core.List.{List, [], _∷_, _++_, map}
+use mathlib.Core.List.{List, [], _∷_, _++_, map, map-id}
 use mathlib.Core.Path.{_≡_, refl, sym, ap, _∙_}
 use lib.ListN.{length, take, getD, set, length-set, length-map, List·getD-map}
 use lib.Seq.{take-suc, take-suc-set, take-all, getD-take, length-take-le}
@@ -88,3 +88,10 @@ cell-written l row after i v e q h n s = (
   ap length e ∙ length-set row i v ∙ n,
   ap (take (i + 1)) e ∙ same-next row (rowOf (relaysOf l)) i v 0 (omega arith) (omega (arith, length-pad {A = ℕ} 32 0 (map number (relaysOf l)))) s q,
 )
+
+-- one more element of a list, copied into its place
+pub pad-copy : {A : Type 0} (n i : ℕ) (b d : A) (xs : List A) → i < n → i < length xs → set (pad n b (take i xs)) i (getD xs i d) ≡ pad n b (take (i + 1) xs)
+pad-copy {A = A} n i b d xs h l =
+    ap (λ (ys : List A). set (pad n b ys) i (getD xs i d)) (sym (map-id (take i xs)))
+    ∙ pad-next (λ (x : A). x) n i b d xs h l
+    ∙ ap (pad n b) (map-id (take (i + 1) xs))

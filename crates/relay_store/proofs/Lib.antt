@@ -3,3 +3,4 @@ pub mod Rows
 pub mod Shifts
 pub mod Agree
 pub mod Packing
+pub mod Steps

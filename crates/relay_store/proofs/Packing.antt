@@ -7,7 +7,7 @@ use mathlib.Core.List.{List, [], _∷_, map}
 use mathlib.Core.Logic.{⊎-elim}
 use mathlib.Core.Path.{_≡_, refl, sym, ap, _∙_, subst}
 use lib.ListN.{length, take, getD, length-map, List·getD-eq-default}
-use lib.Seq.{getD-take, length-take-le}
+use lib.Seq.{length-take-le}
 use Rattle.types.specs.declared.Nwk.{Nwk}
 use Rattle.standard.specs.declared.RecordEntry.{RecordEntry}
 use Rattle.standard.specs.Ordered.{Asc}
@@ -23,8 +23,8 @@ use Rattle.flat_map.proofs.Table.{rows-length, row-at, keys-rows}
 use Rattle.record_table.specs.declared.RecordTable.{RecordTable}
 use Rattle.record_table.specs.Table.{blankRecord, rowsOf, WellFormed, tableOf}
 use Rattle.record_table.proofs.Rows.{table-view, table-fit, table-rows, table-formed}
-use Rattle.relay_store.specs.Store.{number, rowAt, rowsIn, flat, rowOf, blankRow, relayCount, Agrees}
-use Rattle.relay_store.specs.Packed.{recordBy, recordsBy, recordsOf, entryOf, relayRow, tableFor, rowsFor, storeFor, blankRouteRecord, Fits}
+use Rattle.relay_store.specs.Store.{number, rowAt, rowsIn, rowOf, blankRow, relayCount, Agrees}
+use Rattle.relay_store.specs.Packed.{recordBy, recordsBy, recordsOf, entryOf, relayRow, tableFor, rowsFor, storeFor, blankRouteRecord, Fits, Together}
 use Rattle.relay_store.proofs.Cells.{number-nwk, nwk-number}
 use Rattle.relay_store.proofs.Rows.{Wide, count-rows, rows-flat, length-flat, row-is, wide-row}
 use Rattle.relay_store.proofs.Shifts.{laid-out}
@@ -210,3 +210,6 @@ module _ (xs : List RouteRecord) (f : Fits xs) where
   records-back =
       (λ z. recordsBy (table-rows (map entryOf xs) entries-fit z) (packed-rows z))
       ∙ records-by 64 xs (f .fit .small) (f .short)
+
+  pub packed-together : Together (tableFor xs) (storeFor xs)
+  packed-together = record { formed = packed-formed; agrees = packed-agrees }

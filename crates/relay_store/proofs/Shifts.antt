@@ -1,6 +1,6 @@
 -- A loop that moves rows by one place does the rest of a shift of the list of rows at each turn,
 -- and at its end the store is that list laid out.
-use Prim.Native.Nat.{ℕ, _+_, _*_, _<_, _≤_}
+use Prim.Native.Nat.{ℕ, _+_, _<_, _≤_}
 use native.Mathlib.Omega.{arith}
 use mathlib.Core.List.{List, [], map}
 use mathlib.Core.Path.{_≡_, sym, ap, _∙_}

@@ -9,8 +9,8 @@ use Rattle.standard.specs.Route.{nwk}
 use Rattle.flat_map.specs.Rows.{pad}
 use Rattle.flat_map.specs.Table.{Each, Fit}
 use Rattle.record_table.specs.declared.RecordTable.{RecordTable}
-use Rattle.record_table.specs.Table.{rowsOf, tableOf}
-use Rattle.relay_store.specs.Store.{rowsIn, flat, rowOf, blankRow}
+use Rattle.record_table.specs.Table.{WellFormed, rowsOf, tableOf}
+use Rattle.relay_store.specs.Store.{rowsIn, flat, rowOf, blankRow, Agrees}
 
 -- an entry and its row as a record
 abbrev pub recordBy : RecordEntry → List ℕ → RouteRecord
@@ -49,3 +49,8 @@ blankRouteRecord = record { destination = nwk 0; relays = [] }
 pub record Fits (xs : List RouteRecord) : Type 0 where
   pub fit : Fit 64 addressKey blankRouteRecord xs
   pub short : Each ShortWay xs
+
+-- a well-formed table and a store that agrees with it
+pub record Together (t : RecordTable) (store : List ℕ) : Type 0 where
+  pub formed : WellFormed t
+  pub agrees : Agrees t store
