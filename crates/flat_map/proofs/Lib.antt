@@ -11,3 +11,4 @@ pub mod Change
 pub mod Fits
 pub mod Each
 pub mod Query
+pub mod Mapped

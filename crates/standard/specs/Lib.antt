@@ -14,3 +14,4 @@ pub mod Begin
 pub mod Record
 pub mod Time
 pub mod Calls
+pub mod Records

@@ -68,3 +68,16 @@ pub enum RouteReplyDisposition {
     Established,
     Relay { next_hop: Nwk, path_cost: u8 },
 }
+
+// Relays in the order of the way, at most 32: what a list given names, whose count may pass its places, or what an answer names.
+pub struct RelayList {
+    pub count: usize,
+    pub addresses: [Nwk; 32],
+}
+
+// What a destination's record says of the way to it.
+pub enum RecordRoute {
+    Direct,
+    SourceRoute,
+    None,
+}

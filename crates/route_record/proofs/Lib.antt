@@ -1,0 +1,4 @@
+pub mod Held
+pub mod Relays
+pub mod Room
+pub mod Storing
