@@ -8,3 +8,5 @@ pub mod Ordered
 pub mod Table
 pub mod WellFormed
 pub mod Query
+pub mod Every
+pub mod Lists

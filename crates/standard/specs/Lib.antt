@@ -5,3 +5,4 @@ pub mod Ring
 pub mod Median
 pub mod LinkCost
 pub mod Route
+pub mod Rows

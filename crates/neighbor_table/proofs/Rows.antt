@@ -1,0 +1,97 @@
+-- The neighbour table under the laws of flat_map: the test of the table tells well-formedness, a table whose arrays hold
+-- rows is the table of these rows, and each step on rows that fit gives rows that fit.
+use Prim.Native.Nat.{ℕ, _<_, _≤_}
+use native.Mathlib.Omega.{arith}
+use mathlib.Core.Bool.{Bool, true, false}
+use mathlib.Core.List.{List, [], _∷_, map}
+use mathlib.Core.Path.{_≡_, refl, sym, ap, _∙_}
+use lib.ListN.{length, length-map, getD}
+use Rattle.standard.specs.Ordered.{put, remove, keep, countWith}
+use Rattle.standard.specs.Query.{changeFirst}
+use Rattle.standard.specs.Tells.{Tells}
+use Rattle.standard.proofs.Tells.{tells-true}
+use Rattle.flat_map.specs.Table.{Fit, Holds, every}
+use Rattle.flat_map.proofs.Every.{every-put, every-remove, every-keep, every-map, every-change}
+use Rattle.flat_map.proofs.Lists.{any-default}
+use Rattle.flat_map.proofs.Table.{view, fit, formed-rows, rows-back}
+use Rattle.flat_map.proofs.Ordered.{ascending-put, length-put, ascending-remove, length-remove, ascending-keep, length-keep, ascending-map}
+use Rattle.flat_map.proofs.Told.{both-told, told-as}
+use Rattle.flat_map.proofs.WellFormed as tests
+use Rattle.neighbor_table.specs.declared.NeighborEntry.{NeighborEntry}
+use Rattle.neighbor_table.specs.declared.NeighborTable.{NeighborTable}
+use Rattle.neighbor_table.specs.Entry.{neighborKey, blankNeighbor, isBlank, isSound}
+use Rattle.neighbor_table.specs.Table.{Formed64, formed64, WellFormed, wellFormed, FitRows, rowsOf, tableOf}
+use Rattle.neighbor_table.proofs.Entry.{blank-told}
+
+pub formed-told : (t : NeighborTable) → Tells (Formed64 t) (formed64 t)
+formed-told t = tests.formed-told 64 neighborKey blankNeighbor (t .keys) (t .entries) (t .count) isBlank blank-told
+
+pub well-formed-told : (t : NeighborTable) → Tells (WellFormed t) (wellFormed t)
+well-formed-told t =
+    told-as (λ p. record { formed = p .0; sound = p .1 }) (λ w. (w .formed, w .sound))
+    (both-told (formed-told t) (tells-true (every isSound (rowsOf t))))
+
+pub as-table : (t : NeighborTable) (xs : List NeighborEntry) → Holds 64 neighborKey blankNeighbor (t .keys) (t .entries) (t .count) xs → t ≡ tableOf xs
+unfolding tableOf
+as-table t xs h = λ z. record { keys = h .keys-are z; entries = h .entries-are z; count = h .count-is z }
+
+-- a well-formed table is the table of its rows
+pub table-view : (t : NeighborTable) → Formed64 t → t ≡ tableOf (rowsOf t)
+table-view t w = as-table t (rowsOf t) (view 64 neighborKey blankNeighbor (t .keys) (t .entries) (t .count) w)
+
+pub table-fit : (t : NeighborTable) → WellFormed t → FitRows (rowsOf t)
+table-fit t w = record { fit = fit 64 neighborKey blankNeighbor (t .keys) (t .entries) (t .count) (w .formed); sound = w .sound }
+
+-- the table of rows that fit is well formed, and they are its rows
+pub table-rows : (xs : List NeighborEntry) → FitRows xs → rowsOf (tableOf xs) ≡ xs
+unfolding tableOf
+table-rows xs h = rows-back 64 neighborKey blankNeighbor xs (h .fit)
+
+pub table-formed : (xs : List NeighborEntry) → FitRows xs → WellFormed (tableOf xs)
+unfolding tableOf
+table-formed xs h = record { formed = formed-rows 64 neighborKey blankNeighbor xs (h .fit); sound = rw (rows-back 64 neighborKey blankNeighbor xs (h .fit)) (h .sound) }
+
+-- what the code reads in a place in use is the row there, whatever it would read past the end
+pub read : (t : NeighborTable) (i : ℕ) (d : NeighborEntry) → Formed64 t → i < t .count → getD (t .entries) i d ≡ getD (t .entries) i blankNeighbor
+read t i d w h = any-default (t .entries) i d blankNeighbor (omega (arith, w .small, w .entry-places))
+
+pub fit-none : FitRows []
+fit-none = record { fit = record { small = omega arith; ascending = tt }; sound = refl }
+
+-- the steps on rows
+module _ (xs : List NeighborEntry) (h : FitRows xs) where
+  pub fit-put : (e : NeighborEntry) → isSound e ≡ true → countWith neighborKey (neighborKey e) xs ≤ 64 → FitRows (put neighborKey e xs)
+  fit-put e s room = record {
+    fit = record {
+      small = omega (arith, length-put neighborKey e xs (h .fit .ascending));
+      ascending = ascending-put neighborKey e xs (h .fit .ascending);
+    };
+    sound = every-put isSound neighborKey e xs s (h .sound);
+  }
+
+  pub fit-remove : (k : ℕ) → FitRows (remove neighborKey k xs)
+  fit-remove k = record {
+    fit = record {
+      small = omega (arith, h .fit .small, length-remove neighborKey k xs);
+      ascending = ascending-remove neighborKey k xs (h .fit .ascending);
+    };
+    sound = every-remove isSound neighborKey k xs (h .sound);
+  }
+
+  pub fit-keep : (p : NeighborEntry → Bool) → FitRows (keep p xs)
+  fit-keep p = record {
+    fit = record {
+      small = omega (arith, h .fit .small, length-keep neighborKey p xs);
+      ascending = ascending-keep neighborKey p xs (h .fit .ascending);
+    };
+    sound = every-keep isSound p xs (h .sound);
+  }
+
+  pub fit-map : (f : NeighborEntry → NeighborEntry) → ((x : NeighborEntry) → neighborKey (f x) ≡ neighborKey x) → ((x : NeighborEntry) → isSound x ≡ true → isSound (f x) ≡ true) → FitRows (map f xs)
+  fit-map f same kept = record {
+    fit = record {
+      small = omega (arith, h .fit .small, length-map xs f);
+      ascending = ascending-map neighborKey f same xs (h .fit .ascending);
+    };
+    sound = every-map isSound f kept xs (h .sound);
+  }
