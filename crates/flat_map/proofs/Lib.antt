@@ -10,3 +10,4 @@ pub mod WellFormed
 pub mod Query
 pub mod Every
 pub mod Lists
+pub mod Filter

@@ -1,11 +1,11 @@
 -- The neighbour table under the laws of flat_map: the test of the table tells well-formedness, a table whose arrays hold
 -- rows is the table of these rows, and each step on rows that fit gives rows that fit.
-use Prim.Native.Nat.{ℕ, _<_, _≤_}
+use Prim.Native.Nat.{ℕ, _+_, _<_, _≤_}
 use native.Mathlib.Omega.{arith}
 use mathlib.Core.Bool.{Bool, true, false}
 use mathlib.Core.List.{List, [], _∷_, map}
 use mathlib.Core.Path.{_≡_, refl, sym, ap, _∙_}
-use lib.ListN.{length, length-map, getD}
+use lib.ListN.{length, length-map, getD, drop}
 use Rattle.standard.specs.Ordered.{put, remove, keep, countWith}
 use Rattle.standard.specs.Query.{changeFirst}
 use Rattle.standard.specs.Tells.{Tells}
@@ -13,6 +13,7 @@ use Rattle.standard.proofs.Tells.{tells-true}
 use Rattle.flat_map.specs.Table.{Fit, Holds, every}
 use Rattle.flat_map.proofs.Every.{every-put, every-remove, every-keep, every-map, every-change}
 use Rattle.flat_map.proofs.Lists.{any-default}
+use Rattle.flat_map.proofs.Query.{next-row, no-row}
 use Rattle.flat_map.proofs.Table.{view, fit, formed-rows, rows-back}
 use Rattle.flat_map.proofs.Ordered.{ascending-put, length-put, ascending-remove, length-remove, ascending-keep, length-keep, ascending-map}
 use Rattle.flat_map.proofs.Told.{both-told, told-as}
@@ -54,6 +55,15 @@ table-formed xs h = record { formed = formed-rows 64 neighborKey blankNeighbor x
 -- what the code reads in a place in use is the row there, whatever it would read past the end
 pub read : (t : NeighborTable) (i : ℕ) (d : NeighborEntry) → Formed64 t → i < t .count → getD (t .entries) i d ≡ getD (t .entries) i blankNeighbor
 read t i d w h = any-default (t .entries) i d blankNeighbor (omega (arith, w .small, w .entry-places))
+
+-- so a loop takes the next row off the rest, until there is none
+pub next-read : (t : NeighborTable) (i : ℕ) (d : NeighborEntry) → Formed64 t → i < t .count → drop i (rowsOf t) ≡ getD (t .entries) i d ∷ drop (i + 1) (rowsOf t)
+next-read t i d w h =
+    next-row 64 neighborKey blankNeighbor (t .keys) (t .entries) (t .count) w i h
+    ∙ ap (λ (e : NeighborEntry). e ∷ drop (i + 1) (rowsOf t)) (sym (read t i d w h))
+
+pub none-left : (t : NeighborTable) (i : ℕ) → Formed64 t → t .count ≤ i → drop i (rowsOf t) ≡ []
+none-left t i w h = no-row 64 neighborKey blankNeighbor (t .keys) (t .entries) (t .count) w i h
 
 pub fit-none : FitRows []
 fit-none = record { fit = record { small = omega arith; ascending = tt }; sound = refl }

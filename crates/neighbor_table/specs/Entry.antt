@@ -2,13 +2,18 @@
 -- Document 01, "Refusal numbers": "costs stored for neighbours at most 7, sample count at most 3, .. unused places blank".
 -- Assumes nothing.
 use Prim.Native.Nat.{ℕ}
-use mathlib.Core.Bool.{Bool, false, not, _&&_}
+use mathlib.Core.Bool.{Bool, true, false, not, cond, _&&_}
 use lib.Dec.{eqb, leb}
+use Rattle.standard.specs.LinkCost.{linkCost}
+use Rattle.standard.specs.Median.{medianOf}
+use Rattle.ring_buffer.specs.declared.RingBuffer.{RingBuffer}
 use Rattle.ring_buffer.specs.Ring as ring
 use Rattle.neighbor_table.specs.declared.NwkDeviceType.{NwkDeviceType}
 use Rattle.neighbor_table.specs.declared.NwkDeviceType.the-variants.{Coordinator, Router, EndDevice}
 use Rattle.neighbor_table.specs.declared.Relationship.{Relationship}
 use Rattle.neighbor_table.specs.declared.Relationship.the-variants.{Parent, Child, Sibling, NoneOfTheAbove, PreviousChild, UnauthenticatedChild, UnauthorizedChildWithRelayAllowed, LostChild, AddressConflictChild, BackboneMeshSibling}
+use Rattle.neighbor_table.specs.declared.Quality.{Quality}
+use Rattle.neighbor_table.specs.declared.Quality.the-variants.{Unknown, Known}
 use Rattle.neighbor_table.specs.declared.NeighborEntry.{NeighborEntry}
 
 -- 05-3474, table 3-75: "Device type"
@@ -29,6 +34,38 @@ relationshipNumber UnauthorizedChildWithRelayAllowed = 6
 relationshipNumber LostChild = 7
 relationshipNumber AddressConflictChild = 8
 relationshipNumber BackboneMeshSibling = 9
+
+abbrev pub isRouter : NwkDeviceType → Bool
+isRouter Coordinator = false
+isRouter Router = true
+isRouter EndDevice = false
+
+abbrev pub isEndDevice : NwkDeviceType → Bool
+isEndDevice Coordinator = false
+isEndDevice Router = false
+isEndDevice EndDevice = true
+
+-- a child, authenticated or not yet
+abbrev pub isChild : Relationship → Bool
+isChild Parent = false
+isChild Child = true
+isChild Sibling = false
+isChild NoneOfTheAbove = false
+isChild PreviousChild = false
+isChild UnauthenticatedChild = true
+isChild UnauthorizedChildWithRelayAllowed = false
+isChild LostChild = false
+isChild AddressConflictChild = false
+isChild BackboneMeshSibling = false
+
+-- the quality of a full ring is the median of its places
+abbrev pub qualityOf : RingBuffer → Quality
+qualityOf r = cond (eqb (r .len) 3) (Known (medianOf (r .values))) Unknown
+
+-- "With fewer than three samples the incoming cost is 0"
+abbrev pub costOf : Quality → ℕ
+costOf Unknown = 0
+costOf (Known quality) = linkCost quality
 
 -- neighbours are ordered by extended address
 abbrev pub neighborKey : NeighborEntry → ℕ

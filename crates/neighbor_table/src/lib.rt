@@ -14,7 +14,7 @@ ghost use Rattle.flat_map.specs.Table.{every};
 ghost use Rattle.standard.specs.Ordered.{lookup, put, remove, countWith};
 ghost use Rattle.standard.specs.Rows.{rowAt};
 ghost use Rattle.standard.specs.Tells.{Tells};
-ghost use Rattle.neighbor_table.specs.Entry.{deviceTypeNumber, relationshipNumber, neighborKey, blankNeighbor, quiet, isBlank, isSound};
+ghost use Rattle.neighbor_table.specs.Entry.{isRouter, isEndDevice, isChild, qualityOf, costOf, deviceTypeNumber, relationshipNumber, neighborKey, blankNeighbor, quiet, isBlank, isSound};
 ghost use Rattle.neighbor_table.specs.Table.{OwnKeys, BlankFrom, Formed64, formed64, WellFormed, wellFormed, rowsOf, tableOf, inserted, replaced, removed, looked};
 
 // What a device is to its network, in the specification's number order.
@@ -32,6 +32,26 @@ impl NwkDeviceType {
             NwkDeviceType::Coordinator => 0,
             NwkDeviceType::Router => 1,
             NwkDeviceType::EndDevice => 2,
+        }
+    }
+
+    pub fn is_router(self) -> bool
+        ensures { λ r. ⌜ r ≡ isRouter self ⌝ }
+    {
+        match self {
+            NwkDeviceType::Coordinator => false,
+            NwkDeviceType::Router => true,
+            NwkDeviceType::EndDevice => false,
+        }
+    }
+
+    pub fn is_end_device(self) -> bool
+        ensures { λ r. ⌜ r ≡ isEndDevice self ⌝ }
+    {
+        match self {
+            NwkDeviceType::Coordinator => false,
+            NwkDeviceType::Router => false,
+            NwkDeviceType::EndDevice => true,
         }
     }
 }
@@ -67,6 +87,30 @@ impl Relationship {
             Relationship::BackboneMeshSibling => 9,
         }
     }
+
+    // A child, authenticated or not yet.
+    pub fn is_child(self) -> bool
+        ensures { λ r. ⌜ r ≡ isChild self ⌝ }
+    {
+        match self {
+            Relationship::Parent => false,
+            Relationship::Child => true,
+            Relationship::Sibling => false,
+            Relationship::NoneOfTheAbove => false,
+            Relationship::PreviousChild => false,
+            Relationship::UnauthenticatedChild => true,
+            Relationship::UnauthorizedChildWithRelayAllowed => false,
+            Relationship::LostChild => false,
+            Relationship::AddressConflictChild => false,
+            Relationship::BackboneMeshSibling => false,
+        }
+    }
+}
+
+// The quality at which a neighbour is heard: unknown until three samples are held.
+pub enum Quality {
+    Unknown,
+    Known(u8),
 }
 
 // A row of the neighbour table. Moments and periods are in milliseconds.
@@ -97,6 +141,36 @@ pub struct NeighborEntry {
     pub router_outbound_activity: u8,
     pub router_inbound_activity: u8,
     pub security_timer: u8,
+}
+
+impl NeighborEntry {
+    pub fn lqa(self) -> Quality
+        ensures { λ r. ⌜ r ≡ qualityOf (self .lqas) ⌝ }
+    {
+        let lqas = self.lqas;
+        if lqas.is_full() {
+            Quality::Known(ring_buffer::median(lqas.values()))
+        } else {
+            Quality::Unknown
+        }
+    }
+
+    pub fn incoming_link_cost(self) -> u8
+        ensures { λ r. ⌜ r ≡ costOf (qualityOf (self .lqas)) ⌝ }
+    {
+        let quality = self.lqa();
+        match quality {
+            Quality::Unknown => 0,
+            Quality::Known(lqi) => link_cost::lqi_to_link_cost(lqi),
+        }
+    }
+
+    pub fn is_child(self) -> bool
+        ensures { λ r. ⌜ r ≡ isChild (self .relationship) ⌝ }
+    {
+        let relationship = self.relationship;
+        relationship.is_child()
+    }
 }
 
 pub struct NeighborTable {
@@ -312,14 +386,14 @@ fn remove_at(t: NeighborTable, i: usize) -> NeighborTable
 }
 
 // A look-up that found an entry.
-fn found(entry: NeighborEntry) -> NeighborLookup
+pub fn found(entry: NeighborEntry) -> NeighborLookup
     ensures { λ r. ⌜ r ≡ looked (some entry) ⌝ }
 {
     NeighborLookup { found: true, entry }
 }
 
 // A look-up that found none.
-fn missing() -> NeighborLookup
+pub fn missing() -> NeighborLookup
     ensures { λ r. ⌜ r ≡ looked none ⌝ }
 {
     let entry = blank();
