@@ -2,26 +2,30 @@
 -- rows is the table of these rows, and each step on rows that fit gives rows that fit.
 use Prim.Native.Nat.{ℕ, _+_, _<_, _≤_}
 use native.Mathlib.Omega.{arith}
-use mathlib.Core.Bool.{Bool, true, false}
+use mathlib.Core.Bool.{Bool, true, false, true≢false, false≢true}
 use mathlib.Core.List.{List, [], _∷_, map}
-use mathlib.Core.Path.{_≡_, refl, sym, ap, _∙_}
+use mathlib.Core.Option.{Option, none, some}
+use mathlib.Core.Path.{_≡_, refl, sym, ap, _∙_, subst}
 use lib.ListN.{length, length-map, getD, drop}
-use Rattle.standard.specs.Ordered.{put, remove, keep, countWith}
-use Rattle.standard.specs.Query.{changeFirst}
+use Rattle.standard.specs.Ordered.{lookup, put, remove, keep, countWith}
+use Rattle.standard.specs.Query.{first}
+use Rattle.standard.specs.Rows.{putBack}
 use Rattle.standard.specs.Tells.{Tells}
 use Rattle.standard.proofs.Tells.{tells-true}
 use Rattle.flat_map.specs.Table.{Fit, Holds, every}
-use Rattle.flat_map.proofs.Every.{every-put, every-remove, every-keep, every-map, every-change}
+use Rattle.flat_map.proofs.Every.{every-lookup, every-put, every-remove, every-keep, every-map}
+use Rattle.flat_map.proofs.Filter.{first-lookup}
 use Rattle.flat_map.proofs.Lists.{any-default}
 use Rattle.flat_map.proofs.Query.{next-row, no-row}
-use Rattle.flat_map.proofs.Table.{view, fit, formed-rows, rows-back}
-use Rattle.flat_map.proofs.Ordered.{ascending-put, length-put, ascending-remove, length-remove, ascending-keep, length-keep, ascending-map}
+use Rattle.flat_map.proofs.Table.{view, fit, formed-rows, rows-back, rows-length}
+use Rattle.flat_map.proofs.Ordered.{ascending-put, length-put, ascending-remove, length-remove, ascending-keep, length-keep, ascending-map, lookup-key, count-with-found}
 use Rattle.flat_map.proofs.Told.{both-told, told-as}
 use Rattle.flat_map.proofs.WellFormed as tests
 use Rattle.neighbor_table.specs.declared.NeighborEntry.{NeighborEntry}
 use Rattle.neighbor_table.specs.declared.NeighborTable.{NeighborTable}
+use Rattle.neighbor_table.specs.declared.NeighborLookup.{NeighborLookup}
 use Rattle.neighbor_table.specs.Entry.{neighborKey, blankNeighbor, isBlank, isSound}
-use Rattle.neighbor_table.specs.Table.{Formed64, formed64, WellFormed, wellFormed, FitRows, rowsOf, tableOf}
+use Rattle.neighbor_table.specs.Table.{Formed64, formed64, WellFormed, wellFormed, FitRows, rowsOf, tableOf, looked}
 use Rattle.neighbor_table.proofs.Entry.{blank-told}
 
 pub formed-told : (t : NeighborTable) → Tells (Formed64 t) (formed64 t)
@@ -65,6 +69,20 @@ next-read t i d w h =
 pub none-left : (t : NeighborTable) (i : ℕ) → Formed64 t → t .count ≤ i → drop i (rowsOf t) ≡ []
 none-left t i w h = no-row 64 neighborKey blankNeighbor (t .keys) (t .entries) (t .count) w i h
 
+-- what a look-up's answer says
+pub found-none : (o : Option NeighborEntry) (r : NeighborLookup) → r ≡ looked o → r .found ≡ false → o ≡ none
+found-none none r e h = refl
+found-none (some x) r e h = absurd (true≢false (sym (ap (λ (l : NeighborLookup). l .found) e) ∙ h))
+
+pub found-some : (o : Option NeighborEntry) (r : NeighborLookup) → r ≡ looked o → r .found ≡ true → o ≡ some (r .entry)
+found-some none r e h = absurd (false≢true (sym (ap (λ (l : NeighborLookup). l .found) e) ∙ h))
+found-some (some x) r e h = ap some (sym (ap (λ (l : NeighborLookup). l .entry) e))
+
+-- a neighbour that is there has its place
+pub room-for : (t : NeighborTable) → Formed64 t → (k : ℕ) (e : NeighborEntry) → lookup neighborKey k (rowsOf t) ≡ some e → countWith neighborKey k (rowsOf t) ≤ 64
+room-for t w k e h =
+    omega (arith, w .small, count-with-found neighborKey k e (rowsOf t) h, rows-length 64 neighborKey blankNeighbor (t .keys) (t .entries) (t .count) w)
+
 pub fit-none : FitRows []
 fit-none = record { fit = record { small = omega arith; ascending = tt }; sound = refl }
 
@@ -105,3 +123,22 @@ module _ (xs : List NeighborEntry) (h : FitRows xs) where
     };
     sound = every-map isSound f kept xs (h .sound);
   }
+
+  -- a neighbour that was found, changed and put back
+  module _ (f : NeighborEntry → NeighborEntry) (same : (x : NeighborEntry) → neighborKey (f x) ≡ neighborKey x) (kept : (x : NeighborEntry) → isSound x ≡ true → isSound (f x) ≡ true) where
+    fit-back : (k : ℕ) (e : NeighborEntry) → lookup neighborKey k xs ≡ some e → FitRows (put neighborKey (f e) xs)
+    fit-back k e l =
+        fit-put (f e) (kept e (every-lookup isSound neighborKey k xs e (h .sound) l))
+        (subst (λ (j : ℕ). countWith neighborKey j xs ≤ 64) (sym (same e ∙ lookup-key neighborKey k xs e l)) (omega (arith, h .fit .small, count-with-found neighborKey k e xs l)))
+
+    pub fit-change-at : (k : ℕ) → FitRows (putBack neighborKey f (lookup neighborKey k xs) xs)
+    fit-change-at k = go (lookup neighborKey k xs) refl where
+      go : (o : Option NeighborEntry) → lookup neighborKey k xs ≡ o → FitRows (putBack neighborKey f o xs)
+      go none q = h
+      go (some e) q = fit-back k e q
+
+    pub fit-change-first : (fits : NeighborEntry → Bool) → FitRows (putBack neighborKey f (first fits xs) xs)
+    fit-change-first fits = go (first fits xs) refl where
+      go : (o : Option NeighborEntry) → first fits xs ≡ o → FitRows (putBack neighborKey f o xs)
+      go none q = h
+      go (some e) q = fit-back (neighborKey e) e (first-lookup neighborKey fits xs e (h .fit .ascending) q)

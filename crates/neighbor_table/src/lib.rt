@@ -366,7 +366,7 @@ fn set_at(t: NeighborTable, i: usize, e: NeighborEntry) -> NeighborTable
 }
 
 // The entry at a place taken out, both arrays shifted left.
-fn remove_at(t: NeighborTable, i: usize) -> NeighborTable
+pub fn remove_at(t: NeighborTable, i: usize) -> NeighborTable
     requires { ⌜ (i < 64) × (0 < t .count) ⌝ }
     ensures { λ r. ⌜ r ≡ removed t i ⌝ }
 {
