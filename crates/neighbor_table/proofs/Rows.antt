@@ -126,7 +126,7 @@ module _ (xs : List NeighborEntry) (h : FitRows xs) where
 
   -- a neighbour that was found, changed and put back
   module _ (f : NeighborEntry → NeighborEntry) (same : (x : NeighborEntry) → neighborKey (f x) ≡ neighborKey x) (kept : (x : NeighborEntry) → isSound x ≡ true → isSound (f x) ≡ true) where
-    fit-back : (k : ℕ) (e : NeighborEntry) → lookup neighborKey k xs ≡ some e → FitRows (put neighborKey (f e) xs)
+    pub fit-back : (k : ℕ) (e : NeighborEntry) → lookup neighborKey k xs ≡ some e → FitRows (put neighborKey (f e) xs)
     fit-back k e l =
         fit-put (f e) (kept e (every-lookup isSound neighborKey k xs e (h .sound) l))
         (subst (λ (j : ℕ). countWith neighborKey j xs ≤ 64) (sym (same e ∙ lookup-key neighborKey k xs e l)) (omega (arith, h .fit .small, count-with-found neighborKey k e xs l)))
