@@ -12,3 +12,6 @@ pub mod Fits
 pub mod Each
 pub mod Query
 pub mod Mapped
+pub mod Every
+pub mod Lists
+pub mod Filter

@@ -5,7 +5,7 @@ ghost use lib.Dec.{eqb};
 ghost use lib.ListN.{drop};
 ghost use Rattle.standard.specs.Median.{Ordered, medianOf};
 ghost use Rattle.standard.specs.Tells.{Tells};
-ghost use Rattle.ring_buffer.specs.Ring.{fresh, afterPush, allZero, WellFormed};
+ghost use Rattle.ring_buffer.specs.Ring.{fresh, afterPush, allZero, WellFormed, isFresh};
 ghost use Rattle.ring_buffer.specs.Exchange.{exchanged};
 
 // The last three values pushed. `len` of the places are in use, and the next push writes place `next`.
@@ -79,6 +79,13 @@ impl RingBuffer {
         } else {
             false
         }
+    }
+
+    // Whether the ring is the fresh one: well formed, with no sample.
+    pub fn is_fresh(self) -> bool
+        ensures { λ r. ⌜ r ≡ isFresh self ⌝ }
+    {
+        (self.len == 0) & self.well_formed()
     }
 }
 

@@ -15,3 +15,4 @@ pub mod Record
 pub mod Time
 pub mod Calls
 pub mod Records
+pub mod Rows

@@ -1,0 +1,37 @@
+-- The lesser of the two, case by case.
+-- Assumes nothing.
+use Prim.Native.Nat.{min}
+use borrow.Author.Needs.{needs}
+use mathlib.Core.Option.{some}
+use mathlib.Core.Path.{_≡_, sym, ap, _∙_}
+use native.Mathlib.Omega.{arith}
+use Rattle.standard.specs.Rows.{lesser}
+use Rattle.neighbor_queries.specs.Lists.{moment, timeOf}
+use Rattle.neighbor_queries.specs.declared.Moment.the-variants.{At}
+use Rattle.neighbor_queries.specs.declared.Moment.{Moment}
+use Rattle.neighbor_queries.proofs.earlier.Statement.{statement}
+use Rattle.neighbor_queries.proofs.earlier.Tie as tie
+
+enum-told : tie.Need-enum-told
+enum-told c = search needs
+
+enum-known-m : tie.Need-enum-known-m
+enum-known-m c = search needs
+
+returns : tie.Need-returns
+returns c = ap (λ (m : Moment). moment (lesser (timeOf m) (some (c .before .before .args .at)))) (sym (c .enum-told .given .1))
+
+returns-2 : tie.Need-returns-2
+returns-2 c =
+    let s = c .before .before .before .before in
+    let known = c .before .before .m .given in
+    ap At (omega arith) ∙ ap (λ (m : Moment). moment (lesser (timeOf m) (some (s .args .at)))) (sym (known .1))
+
+returns-3 : tie.Need-returns-3
+returns-3 c =
+    let s = c .before .before .before .before in
+    let known = c .before .before .m .given in
+    ap At (omega arith) ∙ ap (λ (m : Moment). moment (lesser (timeOf m) (some (s .args .at)))) (sym (known .1))
+
+pub earlier-spec : {M : Type 1} → statement M
+earlier-spec = tie.close (tie.spec enum-told enum-known-m returns returns-2 returns-3)

@@ -1,0 +1,26 @@
+-- The test decides between the core form and the refusal.
+-- Assumes nothing.
+use borrow.Author.Needs.{needs}
+use mathlib.Core.Path.{_≡_, sym, _∙_}
+use Rattle.neighbors.proofs.Checked.{well-formed-told, picks-first, picks-second}
+use Rattle.neighbors.specs.Queries.{deviceCapability}
+use Rattle.neighbors.proofs.Neighbors.device_capability.Statement.{statement}
+use Rattle.neighbors.proofs.Neighbors.device_capability.Tie as tie
+
+well-formed-requires : tie.Need-well-formed-requires
+well-formed-requires c κs = search needs
+
+device-capability-core-requires : tie.Need-device-capability-core-requires
+device-capability-core-requires c κs = well-formed-told _ .fact (sym (c .before .well-formed .ensures) ∙ c .if1 .taken)
+
+returns : tie.Need-returns
+unfolding deviceCapability
+returns c = c .device-capability-core .ensures ∙ sym (picks-first _ _ (sym (c .before .before .well-formed .ensures) ∙ c .before .if1 .taken))
+
+returns-2 : tie.Need-returns-2
+unfolding deviceCapability
+returns-2 c = sym (picks-second _ _ (sym (c .before .well-formed .ensures) ∙ c .if1 .left))
+
+pub device-capability-spec : {M : Type 1} → statement M
+device-capability-spec =
+    tie.close (tie.spec well-formed-requires device-capability-core-requires returns returns-2)

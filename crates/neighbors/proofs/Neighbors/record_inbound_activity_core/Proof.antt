@@ -1,0 +1,20 @@
+-- The table after the step, and the waiting samples as they were.
+-- Assumes nothing.
+use borrow.Author.Needs.{needs}
+use mathlib.Core.Path.{ap, _∙_}
+use Rattle.neighbors.specs.State.{withTable}
+use Rattle.neighbors.proofs.Neighbors.record_inbound_activity_core.Statement.{statement}
+use Rattle.neighbors.proofs.Neighbors.record_inbound_activity_core.Tie as tie
+
+change-first-requires : tie.Need-change-first-requires
+change-first-requires c κs = search needs
+
+with-table-requires : tie.Need-with-table-requires
+with-table-requires c κs = search needs
+
+returns : tie.Need-returns
+returns c = c .with-table .ensures ∙ ap (withTable (c .before .before .before .args .self)) (c .before .change-first .ensures)
+
+pub record-inbound-activity-core-spec : {M : Type 1} → statement M
+record-inbound-activity-core-spec =
+    tie.close (tie.spec change-first-requires with-table-requires returns)

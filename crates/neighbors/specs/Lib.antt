@@ -1,0 +1,4 @@
+pub mod State
+pub mod Answers
+pub mod Queries
+pub mod Changes

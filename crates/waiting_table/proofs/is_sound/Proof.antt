@@ -1,0 +1,15 @@
+-- The ring's test of its form is the computed one.
+-- Assumes nothing.
+use borrow.Author.Needs.{needs}
+use Rattle.ring_buffer.proofs.Fresh.{computed}
+use Rattle.waiting_table.proofs.is_sound.Statement.{statement}
+use Rattle.waiting_table.proofs.is_sound.Tie as tie
+
+well-formed-requires : tie.Need-well-formed-requires
+well-formed-requires c κs = search needs
+
+returns : tie.Need-returns
+returns c = computed (c .well-formed .ensures)
+
+pub is-sound-spec : {M : Type 1} → statement M
+is-sound-spec = tie.close (tie.spec well-formed-requires returns)

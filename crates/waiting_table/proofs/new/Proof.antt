@@ -1,0 +1,16 @@
+-- Arrays of blanks hold no row.
+-- Assumes nothing.
+use borrow.Author.Needs.{needs}
+use Rattle.waiting_table.specs.Table.{tableOf}
+use Rattle.waiting_table.proofs.new.Statement.{statement}
+use Rattle.waiting_table.proofs.new.Tie as tie
+
+blank-requires : tie.Need-blank-requires
+blank-requires c κs = search needs
+
+returns : tie.Need-returns
+unfolding tableOf
+returns c = rw (c .blank .ensures)
+
+pub new-spec : {M : Type 1} → statement M
+new-spec = tie.close (tie.spec blank-requires returns)
