@@ -8,6 +8,9 @@ ghost use Rattle.standard.specs.Tells.{Tells};
 ghost use Rattle.ring_buffer.specs.Ring.{fresh, afterPush, allZero, WellFormed, isFresh};
 ghost use Rattle.ring_buffer.specs.Exchange.{exchanged};
 
+// Three samples, by value.
+pub type Samples = [u8; 3];
+
 // The last three values pushed. `len` of the places are in use, and the next push writes place `next`.
 pub struct RingBuffer {
     pub values: [u8; 3],
@@ -56,7 +59,7 @@ impl RingBuffer {
     }
 
     // The three places, used or not.
-    pub fn values(self) -> [u8; 3]
+    pub fn values(self) -> Samples
         ensures { λ r. ⌜ r ≡ self .values ⌝ }
     {
         self.values
@@ -127,7 +130,7 @@ fn exchange(samples: [u8; 3], i: usize) -> [u8; 3]
 }
 
 // The samples in ascending order: the greatest goes to the end, and then the first two are put in order.
-pub fn ordered(samples: [u8; 3]) -> [u8; 3]
+pub fn ordered(samples: [u8; 3]) -> Samples
     ensures { λ r. ⌜ Ordered samples r ⌝ }
 {
     exchange(exchange(exchange(samples, 0), 1), 0)
