@@ -1,3 +1,4 @@
 pub mod Tells
 pub mod Median
 pub mod Ring
+pub mod Unique

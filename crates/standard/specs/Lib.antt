@@ -16,3 +16,4 @@ pub mod Time
 pub mod Calls
 pub mod Records
 pub mod Rows
+pub mod Numbers
