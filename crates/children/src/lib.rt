@@ -96,7 +96,7 @@ fn refused_taken(state: Neighbors, refusal: Refusal) -> NwkOutcome
     }
 }
 
-fn refused_removal(state: Neighbors, refusal: Refusal) -> Removal
+pub fn refused_removal(state: Neighbors, refusal: Refusal) -> Removal
     ensures { λ r. ⌜ r ≡ refusedRemoval state refusal ⌝ }
 {
     let removed = ChildList::new();
