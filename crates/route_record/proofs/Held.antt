@@ -99,11 +99,11 @@ module _ (t : RecordTable) (s : List ℕ) (g : Together t s) where
     pub within : i < 64
     within = use-within i in-use
 
-    pub few : getD (t .entries) i blankRecord .«relay_count» ≤ 32
-    few = use-few i in-use
-
     pub found : lookup addressKey k (recordsOf t s) ≡ some (recordBy (getD (t .entries) i blankRecord) (rowAt i s))
     found = steps.found-record (recordsOf t s) fits k i (p ∙ place k) ∙ ap some (use-record i in-use)
+
+    pub found-there : entryAt i (recordsOf t s) ≡ lookup addressKey k (recordsOf t s)
+    found-there = record-there i in-use ∙ sym found
 
   -- a record put
   module _ (x : RouteRecord) (room : length (put addressKey x (recordsOf t s)) ≤ 64) where

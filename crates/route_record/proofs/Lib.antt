@@ -1,5 +1,6 @@
 pub mod Held
 pub mod Relays
+pub mod Looked
 pub mod Room
 pub mod Storing
 pub mod Kept

@@ -2,7 +2,7 @@
 -- Document 01, "Refusal numbers": 3, "the call needs more new entries than are free in the .. record .. table".
 -- Assumes nothing.
 use Prim.Native.Nat.{ℕ}
-use mathlib.Core.Bool.{Bool, cond}
+use mathlib.Core.Bool.{cond}
 use mathlib.Core.List.{List, [], _∷_}
 use mathlib.Core.Option.{Option, none, some}
 use lib.Dec.{leb}
@@ -80,3 +80,7 @@ rowFor (some x) = record { entry = Found (entryOf x); relays = relayList (x .rel
 
 unfoldable pub recordHeld : ℕ → RecordTable → List ℕ → RecordRow
 recordHeld i t store = rowFor (entryAt i (recordsOf t store))
+
+-- the record of a destination with its relays
+unfoldable pub recordFound : Nwk → RecordTable → List ℕ → RecordRow
+recordFound destination t store = rowFor (recordAt destination t store)

@@ -17,7 +17,7 @@ ghost use Rattle.standard.specs.Records.{sameRelays, otherRelays};
 ghost use Rattle.record_table.specs.Table.{WellFormed, rowsOf};
 ghost use Rattle.relay_store.specs.Store.{relaysOf, relayList};
 ghost use Rattle.relay_store.specs.Packed.{tableFor, storeFor, Together};
-ghost use Rattle.route_record.specs.Answer.{recordPut, relaysPut, recordAt, withAddress, withRelays, storedStep, storedStore, removedStep, removedStore, wayTo, recordHeld};
+ghost use Rattle.route_record.specs.Answer.{recordPut, relaysPut, recordAt, withAddress, withRelays, storedStep, storedStore, removedStep, removedStore, wayTo, recordHeld, recordFound};
 
 // What storing a route record answers: a refusal, or whether the source's record changed.
 pub enum RecordAnswer {
@@ -145,17 +145,51 @@ fn put_relays(t: RecordTable, store: &mut [u16], relays: RelayList) -> RecordTab
     u
 }
 
+// The record at a place in the order with its relays, and nothing from the count on.
+pub fn record_at(t: RecordTable, store: &[u16], i: usize) -> RecordRow
+    requires { ⌜ Together t (now store) ⌝ }
+    ensures { λ r. ⌜ r ≡ recordHeld i t (now (store .entry)) ⌝ }
+{
+    if t.count <= i {
+        return RecordRow {
+            entry: RecordLookup::Missing,
+            relays: relay_store::no_relays(),
+        };
+    }
+    let e = t.entries[i];
+    let relays = relay_store::relays_at(store, i, e.relay_count as usize);
+    RecordRow {
+        entry: RecordLookup::Found(e),
+        relays,
+    }
+}
+
+// The record of a destination with its relays.
+pub fn find_record(t: RecordTable, store: &[u16], destination: Nwk) -> RecordRow
+    requires { ⌜ Together t (now store) ⌝ }
+    ensures { λ r. ⌜ r ≡ recordFound destination t (now (store .entry)) ⌝ }
+{
+    let place = record_table::place_of(t, destination);
+    let Place::Found(i) = place else {
+        return RecordRow {
+            entry: RecordLookup::Missing,
+            relays: relay_store::no_relays(),
+        };
+    };
+    record_at(t, store, i)
+}
+
 // Whether a destination has no record, or one that names other relays.
 fn differs(t: RecordTable, store: &[u16], destination: Nwk, relays: RelayList) -> bool
     requires { ⌜ Together t (now store) × (relays .count ≤ 32) ⌝ }
     ensures { λ r. ⌜ r ≡ otherRelays (relaysOf relays) (recordAt destination t (now (store .entry))) ⌝ }
 {
-    let place = record_table::place_of(t, destination);
-    let Place::Found(i) = place else {
+    let row = find_record(t, store, destination);
+    let entry = row.entry;
+    let RecordLookup::Found(_) = entry else {
         return true;
     };
-    let e = t.entries[i];
-    let held = relay_store::relays_at(store, i, e.relay_count as usize);
+    let held = row.relays;
     !same_relays(held, relays)
 }
 
@@ -206,50 +240,30 @@ pub fn way_to(t: RecordTable, store: &[u16], destination: Nwk, limit: u8) -> Rec
     requires { ⌜ Together t (now store) ⌝ }
     ensures { λ r. ⌜ r ≡ wayTo destination limit t (now (store .entry)) ⌝ }
 {
-    let none = relay_store::no_relays();
-    let place = record_table::place_of(t, destination);
-    let Place::Found(i) = place else {
+    let row = find_record(t, store, destination);
+    let entry = row.entry;
+    let relays = row.relays;
+    let RecordLookup::Found(_) = entry else {
         return RecordWay {
             route: RecordRoute::None,
-            relays: none,
+            relays,
         };
     };
-    let e = t.entries[i];
-    let n = e.relay_count;
+    let n = relays.count;
     if n == 0 {
         return RecordWay {
             route: RecordRoute::Direct,
-            relays: none,
+            relays,
         };
     }
-    if limit <= n {
+    if n < limit as usize {
         return RecordWay {
-            route: RecordRoute::None,
-            relays: none,
+            route: RecordRoute::SourceRoute,
+            relays,
         };
     }
-    let relays = relay_store::relays_at(store, i, n as usize);
     RecordWay {
-        route: RecordRoute::SourceRoute,
-        relays,
-    }
-}
-
-// The record at a place in the order with its relays, and nothing from the count on.
-pub fn record_at(t: RecordTable, store: &[u16], i: usize) -> RecordRow
-    requires { ⌜ Together t (now store) ⌝ }
-    ensures { λ r. ⌜ r ≡ recordHeld i t (now (store .entry)) ⌝ }
-{
-    if t.count <= i {
-        return RecordRow {
-            entry: RecordLookup::Missing,
-            relays: relay_store::no_relays(),
-        };
-    }
-    let e = t.entries[i];
-    let relays = relay_store::relays_at(store, i, e.relay_count as usize);
-    RecordRow {
-        entry: RecordLookup::Found(e),
-        relays,
+        route: RecordRoute::None,
+        relays: relay_store::no_relays(),
     }
 }
