@@ -4,3 +4,4 @@ pub mod Looked
 pub mod Room
 pub mod Storing
 pub mod Kept
+pub mod Fresh

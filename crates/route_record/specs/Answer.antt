@@ -1,7 +1,7 @@
 -- Route records by value and lent: what storing, removing and asking answer, and the table and the store after it.
 -- Document 01, "Refusal numbers": 3, "the call needs more new entries than are free in the .. record .. table".
 -- Assumes nothing.
-use Prim.Native.Nat.{ℕ}
+use Prim.Native.Nat.{ℕ, _+_}
 use mathlib.Core.Bool.{cond}
 use mathlib.Core.List.{List, [], _∷_}
 use mathlib.Core.Option.{Option, none, some}
@@ -41,6 +41,15 @@ withAddress a addresses = put (λ n. n) (a .0) addresses
 unfoldable pub withRelays : List Nwk → List ℕ → List ℕ
 withRelays [] addresses = addresses
 withRelays (r ∷ rs) addresses = withRelays rs (withAddress r addresses)
+
+-- how many of some addresses have no record yet, each counted once
+abbrev pub oneMore : Option ℕ → ℕ
+oneMore none = 1
+oneMore (some k) = 0
+
+unfoldable pub newAddresses : List Nwk → List ℕ → ℕ
+newAddresses [] addresses = 0
+newAddresses (a ∷ rest) addresses = oneMore (lookup (λ n. n) (a .0) addresses) + newAddresses rest (withAddress a addresses)
 
 -- a route record of a source stored: refused where there would be more than 64 records
 unfoldable pub storedStep : Nwk → List Nwk → RecordTable → List ℕ → RecordStep
