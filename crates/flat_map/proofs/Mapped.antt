@@ -1,13 +1,15 @@
 -- Rows seen through a map that keeps their keys: put and remove commute with it, since they look at keys alone.
--- And a put makes rows no fewer.
+-- And a put makes rows no fewer, and a row that is found has what each row has.
 use Prim.Native.Nat.{ℕ, zero, suc, _≤_}
 use native.Mathlib.Omega.{arith}
 use mathlib.Core.List.{List, [], _∷_, map}
-use mathlib.Core.Path.{_≡_, refl, sym, ap, _∙_}
+use mathlib.Core.Option.{some}
+use mathlib.Core.Path.{_≡_, refl, sym, ap, _∙_, subst}
 use lib.ListN.{length, set}
-use Rattle.standard.specs.Ordered.{put, remove}
+use Rattle.standard.specs.Ordered.{lookup, put, remove}
+use Rattle.flat_map.specs.Table.{Each}
 use Rattle.flat_map.proofs.Compare.{Tri, lt, eq, gt, tri}
-use Rattle.flat_map.proofs.Ordered.{put-none, put-lt, put-eq, put-gt, remove-none, remove-here, remove-past}
+use Rattle.flat_map.proofs.Ordered.{none-some, lookup-none, lookup-here, lookup-past, put-none, put-lt, put-eq, put-gt, remove-none, remove-here, remove-past}
 use Rattle.flat_map.proofs.Rows.{cons}
 
 module _ {A B : Type 0} (f : A → B) where
@@ -44,3 +46,11 @@ module _ {E : Type 0} (keyOf : E → ℕ) where
     go (lt p) ih = rw (put-lt keyOf e x xs p) (omega arith)
     go (eq p) ih = rw (put-eq keyOf e x xs p) (omega arith)
     go (gt p) ih = rw (put-gt keyOf e x xs p) (omega arith)
+
+  pub each-found : (P : E → Type 0) (k : ℕ) (xs : List E) (x : E) → Each P xs → lookup keyOf k xs ≡ some x → P x
+  each-found P k [] x e h = absurd (none-some x (sym (lookup-none keyOf k) ∙ h))
+  each-found P k (y ∷ xs) x e h = go (tri (keyOf y) k) (λ q. each-found P k xs x (e .1) q) where
+    go : Tri (keyOf y) k → (lookup keyOf k xs ≡ some x → P x) → P x
+    go (lt p) ih = ih (sym (lookup-past keyOf k y xs (λ q. omega arith)) ∙ h)
+    go (eq p) ih = let s : y ≡ x = cc (lookup-here keyOf k y xs p) in subst P s (e .0)
+    go (gt p) ih = ih (sym (lookup-past keyOf k y xs (λ q. omega arith)) ∙ h)

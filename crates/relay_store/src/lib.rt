@@ -6,7 +6,7 @@ use standard::RelayList;
 use types::Nwk;
 ghost use mathlib.Core.Path.{_≡_};
 ghost use mathlib.Core.List.{[], map};
-ghost use Prim.Native.Nat.{_+_, _*_, _≤_, _<_};
+ghost use Prim.Native.Nat.{_≤_, _<_};
 ghost use lib.ListN.{length, take};
 ghost use Rattle.flat_map.specs.Shift.{shiftIn, shiftOut};
 ghost use Rattle.flat_map.specs.Table.{ZeroFrom};

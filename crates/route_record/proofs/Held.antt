@@ -11,6 +11,7 @@ use Rattle.types.specs.declared.Nwk.{Nwk}
 use Rattle.standard.specs.declared.RecordEntry.{RecordEntry}
 use Rattle.standard.specs.declared.RelayList.{RelayList}
 use Rattle.standard.specs.Ordered.{lookup, put, remove, countWith}
+use Rattle.standard.specs.Query.{entryAt}
 use Rattle.standard.specs.Record.{recordKey, FewRelays}
 use Rattle.standard.specs.Records.{RouteRecord, addressKey, recordFor}
 use Rattle.flat_map.specs.declared.Place.{Place}
@@ -19,12 +20,13 @@ use Rattle.flat_map.specs.Seek.{placeOf}
 use Rattle.flat_map.specs.Shift.{shiftOut}
 use Rattle.flat_map.proofs.Each.{each-at}
 use Rattle.flat_map.proofs.Ordered.{length-put}
+use Rattle.flat_map.proofs.Query.{entry-there, entry-past}
 use Rattle.flat_map.proofs.Table.{rows-length, row-at, found-within}
 use Rattle.record_table.specs.declared.RecordTable.{RecordTable}
 use Rattle.record_table.specs.Table.{blankRecord, rowsOf, tableOf}
 use Rattle.record_table.proofs.Rows.{table-fit}
 use Rattle.relay_store.specs.Store.{rowAt, flat, rowsIn, onRows, rowOf, rowPut, PlaceWithin, blankRow, relaysOf}
-use Rattle.relay_store.specs.Packed.{recordBy, recordsOf, entryOf, tableFor, rowsFor, storeFor, Fits, Together}
+use Rattle.relay_store.specs.Packed.{recordBy, recordsOf, entryOf, tableFor, rowsFor, storeFor, blankRouteRecord, Fits, Together}
 use Rattle.relay_store.proofs.Packing as packing
 use Rattle.relay_store.proofs.Rows.{count-rows, row-is}
 use Rattle.relay_store.proofs.Steps as steps
@@ -59,27 +61,49 @@ module _ (t : RecordTable) (s : List ℕ) (g : Together t s) where
   pub missing : (k i : ℕ) → Missing i ≡ placeOf (take (t .count) (t .keys)) k → lookup addressKey k (recordsOf t s) ≡ none
   missing k i p = steps.missing-record (recordsOf t s) fits k i (p ∙ place k)
 
-  -- one that is found has the record of its entry and its row
+  -- a place in use has the record of its entry and its row
+  module _ (i : ℕ) (h : i < t .count) where
+    many : length (rowsOf t) ≡ t .count
+    many = rows-length 64 recordKey blankRecord (t .keys) (t .entries) (t .count) (g .formed .formed)
+
+    pub use-within : i < 64
+    use-within = omega (arith, h, g .formed .formed .small)
+
+    pub use-few : getD (t .entries) i blankRecord .«relay_count» ≤ 32
+    use-few = each-at FewRelays blankRecord (t .entries) (t .count) (omega (arith, g .formed .formed .small, g .formed .formed .entry-places)) (g .formed .few) i h
+
+    pub use-record : getD (recordsOf t s) i blankRouteRecord ≡ recordBy (getD (t .entries) i blankRecord) (rowAt i s)
+    unfolding recordsOf
+    use-record =
+        packing.record-at (rowsOf t) (rowsIn 64 s) i (omega (arith, many, h)) (omega (arith, many, count-rows 64 s, g .formed .formed .small))
+        ∙ (λ z. recordBy (sym (row-at 64 recordKey blankRecord (t .keys) (t .entries) (t .count) (g .formed .formed) i h) z) (row-is 64 i s [] use-within z))
+
+  pub record-count : length (recordsOf t s) ≡ t .count
+  record-count =
+      sym (length-map (recordsOf t s) entryOf)
+      ∙ ap length entries
+      ∙ rows-length 64 recordKey blankRecord (t .keys) (t .entries) (t .count) (g .formed .formed)
+
+  -- so the record at a place is that of its entry and its row, and there is none from the count on
+  pub record-there : (i : ℕ) → i < t .count → entryAt i (recordsOf t s) ≡ some (recordBy (getD (t .entries) i blankRecord) (rowAt i s))
+  record-there i h = entry-there blankRouteRecord (recordsOf t s) i (omega (arith, record-count)) ∙ ap some (use-record i h)
+
+  pub record-past : (i : ℕ) → t .count ≤ i → entryAt i (recordsOf t s) ≡ none
+  record-past i h = entry-past blankRouteRecord (recordsOf t s) i (omega (arith, record-count))
+
+  -- and so has a destination that is found
   module _ (k i : ℕ) (p : Found i ≡ placeOf (take (t .count) (t .keys)) k) where
-    pub in-use : i < t .count
+    in-use : i < t .count
     in-use = found-within 64 recordKey blankRecord (t .keys) (t .entries) (t .count) (g .formed .formed) k i p
 
     pub within : i < 64
-    within = omega (arith, in-use, g .formed .formed .small)
-
-    pub few : getD (t .entries) i blankRecord .«relay_count» ≤ 32
-    few =
-        each-at FewRelays blankRecord (t .entries) (t .count) (omega (arith, g .formed .formed .small, g .formed .formed .entry-places)) (g .formed .few) i in-use
+    within = use-within i in-use
 
     pub found : lookup addressKey k (recordsOf t s) ≡ some (recordBy (getD (t .entries) i blankRecord) (rowAt i s))
-    unfolding recordsOf
-    found =
-        steps.found-record (recordsOf t s) fits k i (p ∙ place k)
-        ∙ ap some
-        (packing.record-at (rowsOf t) (rowsIn 64 s) i (omega (arith, many, in-use)) (omega (arith, many, count-rows 64 s, g .formed .formed .small))
-        ∙ (λ z. recordBy (sym (row-at 64 recordKey blankRecord (t .keys) (t .entries) (t .count) (g .formed .formed) i in-use) z) (row-is 64 i s [] within z))) where
-          many : length (rowsOf t) ≡ t .count
-          many = rows-length 64 recordKey blankRecord (t .keys) (t .entries) (t .count) (g .formed .formed)
+    found = steps.found-record (recordsOf t s) fits k i (p ∙ place k) ∙ ap some (use-record i in-use)
+
+    pub found-there : entryAt i (recordsOf t s) ≡ lookup addressKey k (recordsOf t s)
+    found-there = record-there i in-use ∙ sym found
 
   -- a record put
   module _ (x : RouteRecord) (room : length (put addressKey x (recordsOf t s)) ≤ 64) where

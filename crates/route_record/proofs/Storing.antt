@@ -105,6 +105,10 @@ module _ (t : RecordTable) (s : List ℕ) (g : Together t s) (source : Nwk) (rel
     pub relays-fit : Fits (relaysStored relays (recordsOf t s))
     relays-fit = fits-relays relays (recordsOf t s) short (fits t s g) relays-room
 
+    pub whole-fit : Fits (recordStored source relays (recordsOf t s))
+    unfolding recordStored
+    whole-fit = fits-put (relaysStored relays (recordsOf t s)) relays-fit (recordFor source relays) (leb-true (length (recordStored source relays (recordsOf t s))) 64 free) short
+
     module _ (u : RecordTable) (mid : List ℕ) (p : u ≡ tableFor (relaysStored relays (recordsOf t s))) (q : mid ≡ storeFor (relaysStored relays (recordsOf t s))) where
       pub relays-together : Together u mid
       relays-together = rw (p, q) (packed-together (relaysStored relays (recordsOf t s)) relays-fit)

@@ -1,5 +1,6 @@
 // Route records in a table by value and a lent relay store: one stored, one removed, and the way that one names.
 use flat_map::Place;
+use record_table::RecordLookup;
 use record_table::RecordTable;
 use standard::RecordEntry;
 use standard::RecordRoute;
@@ -8,16 +9,15 @@ use types::Nwk;
 use types::Refusal;
 ghost use mathlib.Core.Path.{_≡_};
 ghost use mathlib.Core.List.{map};
-ghost use Prim.Native.Nat.{_≤_, _<_};
+ghost use Prim.Native.Nat.{_≤_};
 ghost use lib.Dec.{leb};
 ghost use lib.ListN.{length, drop};
-ghost use Rattle.standard.specs.Ordered.{lookup, put};
 ghost use Rattle.standard.specs.Record.{recordKey};
-ghost use Rattle.standard.specs.Records.{addressKey, recordFor, relaysStored, sameRelays, otherRelays};
+ghost use Rattle.standard.specs.Records.{sameRelays, otherRelays};
 ghost use Rattle.record_table.specs.Table.{WellFormed, rowsOf};
 ghost use Rattle.relay_store.specs.Store.{relaysOf, relayList};
-ghost use Rattle.relay_store.specs.Packed.{recordsOf, tableFor, storeFor, Together};
-ghost use Rattle.route_record.specs.Answer.{withAddress, withRelays, storedStep, storedStore, removedStep, removedStore, wayTo};
+ghost use Rattle.relay_store.specs.Packed.{tableFor, storeFor, Together};
+ghost use Rattle.route_record.specs.Answer.{recordPut, relaysPut, recordAt, withAddress, withRelays, storedStep, storedStore, removedStep, removedStore, wayTo, recordHeld, recordFound};
 
 // What storing a route record answers: a refusal, or whether the source's record changed.
 pub enum RecordAnswer {
@@ -38,6 +38,12 @@ pub struct RecordRemoved {
 // The way that a record names, and the relays of a source route.
 pub struct RecordWay {
     pub route: RecordRoute,
+    pub relays: RelayList,
+}
+
+// The record at a place, and its relays.
+pub struct RecordRow {
+    pub entry: RecordLookup,
     pub relays: RelayList,
 }
 
@@ -81,9 +87,9 @@ fn same_relays(a: RelayList, b: RelayList) -> bool
 
 // A destination's record written, over the one that is there or in a free place: its row first, then its entry.
 fn put_record(t: RecordTable, store: &mut [u16], destination: Nwk, relays: RelayList) -> RecordTable
-    requires { ⌜ Together t (now store) × (relays .count ≤ 32) × (length (put addressKey (recordFor destination (relaysOf relays)) (recordsOf t (now store))) ≤ 64) ⌝ }
-    ensures { λ r. ⌜ r ≡ tableFor (put addressKey (recordFor destination (relaysOf relays)) (recordsOf t (now (store .entry)))) ⌝ }
-    ensures { λ _. ⌜ now (store .exit) ≡ storeFor (put addressKey (recordFor destination (relaysOf relays)) (recordsOf t (now (store .entry)))) ⌝ }
+    requires { ⌜ Together t (now store) × (relays .count ≤ 32) × (length (recordPut destination (relaysOf relays) t (now store)) ≤ 64) ⌝ }
+    ensures { λ r. ⌜ r ≡ tableFor (recordPut destination (relaysOf relays) t (now (store .entry))) ⌝ }
+    ensures { λ _. ⌜ now (store .exit) ≡ storeFor (recordPut destination (relaysOf relays) t (now (store .entry))) ⌝ }
 {
     let place = record_table::place_of(t, destination);
     relay_store::put_row(store, place, relays);
@@ -123,9 +129,9 @@ fn has_room(t: RecordTable, source: Nwk, relays: RelayList) -> bool
 
 // Each relay's record written, in their order: the relays after it.
 fn put_relays(t: RecordTable, store: &mut [u16], relays: RelayList) -> RecordTable
-    requires { ⌜ Together t (now store) × (relays .count ≤ 32) × (length (relaysStored (relaysOf relays) (recordsOf t (now store))) ≤ 64) ⌝ }
-    ensures { λ r. ⌜ r ≡ tableFor (relaysStored (relaysOf relays) (recordsOf t (now (store .entry)))) ⌝ }
-    ensures { λ _. ⌜ now (store .exit) ≡ storeFor (relaysStored (relaysOf relays) (recordsOf t (now (store .entry)))) ⌝ }
+    requires { ⌜ Together t (now store) × (relays .count ≤ 32) × (length (relaysPut (relaysOf relays) t (now store)) ≤ 64) ⌝ }
+    ensures { λ r. ⌜ r ≡ tableFor (relaysPut (relaysOf relays) t (now (store .entry))) ⌝ }
+    ensures { λ _. ⌜ now (store .exit) ≡ storeFor (relaysPut (relaysOf relays) t (now (store .entry))) ⌝ }
 {
     let n = relays.count;
     let mut u = t;
@@ -139,17 +145,51 @@ fn put_relays(t: RecordTable, store: &mut [u16], relays: RelayList) -> RecordTab
     u
 }
 
-// Whether a destination has no record, or one that names other relays.
-fn differs(t: RecordTable, store: &[u16], destination: Nwk, relays: RelayList) -> bool
-    requires { ⌜ Together t (now store) × (relays .count ≤ 32) ⌝ }
-    ensures { λ r. ⌜ r ≡ otherRelays (relaysOf relays) (lookup addressKey (destination .0) (recordsOf t (now (store .entry)))) ⌝ }
+// The record at a place in the order with its relays, and nothing from the count on.
+pub fn record_at(t: RecordTable, store: &[u16], i: usize) -> RecordRow
+    requires { ⌜ Together t (now store) ⌝ }
+    ensures { λ r. ⌜ r ≡ recordHeld i t (now (store .entry)) ⌝ }
+{
+    if t.count <= i {
+        return RecordRow {
+            entry: RecordLookup::Missing,
+            relays: relay_store::no_relays(),
+        };
+    }
+    let e = t.entries[i];
+    let relays = relay_store::relays_at(store, i, e.relay_count as usize);
+    RecordRow {
+        entry: RecordLookup::Found(e),
+        relays,
+    }
+}
+
+// The record of a destination with its relays.
+pub fn find_record(t: RecordTable, store: &[u16], destination: Nwk) -> RecordRow
+    requires { ⌜ Together t (now store) ⌝ }
+    ensures { λ r. ⌜ r ≡ recordFound destination t (now (store .entry)) ⌝ }
 {
     let place = record_table::place_of(t, destination);
     let Place::Found(i) = place else {
+        return RecordRow {
+            entry: RecordLookup::Missing,
+            relays: relay_store::no_relays(),
+        };
+    };
+    record_at(t, store, i)
+}
+
+// Whether a destination has no record, or one that names other relays.
+fn differs(t: RecordTable, store: &[u16], destination: Nwk, relays: RelayList) -> bool
+    requires { ⌜ Together t (now store) × (relays .count ≤ 32) ⌝ }
+    ensures { λ r. ⌜ r ≡ otherRelays (relaysOf relays) (recordAt destination t (now (store .entry))) ⌝ }
+{
+    let row = find_record(t, store, destination);
+    let entry = row.entry;
+    let RecordLookup::Found(_) = entry else {
         return true;
     };
-    let e = t.entries[i];
-    let held = relay_store::relays_at(store, i, e.relay_count as usize);
+    let held = row.relays;
     !same_relays(held, relays)
 }
 
@@ -200,31 +240,30 @@ pub fn way_to(t: RecordTable, store: &[u16], destination: Nwk, limit: u8) -> Rec
     requires { ⌜ Together t (now store) ⌝ }
     ensures { λ r. ⌜ r ≡ wayTo destination limit t (now (store .entry)) ⌝ }
 {
-    let none = relay_store::no_relays();
-    let place = record_table::place_of(t, destination);
-    let Place::Found(i) = place else {
+    let row = find_record(t, store, destination);
+    let entry = row.entry;
+    let relays = row.relays;
+    let RecordLookup::Found(_) = entry else {
         return RecordWay {
             route: RecordRoute::None,
-            relays: none,
+            relays,
         };
     };
-    let e = t.entries[i];
-    let n = e.relay_count;
+    let n = relays.count;
     if n == 0 {
         return RecordWay {
             route: RecordRoute::Direct,
-            relays: none,
+            relays,
         };
     }
-    if limit <= n {
+    if n < limit as usize {
         return RecordWay {
-            route: RecordRoute::None,
-            relays: none,
+            route: RecordRoute::SourceRoute,
+            relays,
         };
     }
-    let relays = relay_store::relays_at(store, i, n as usize);
     RecordWay {
-        route: RecordRoute::SourceRoute,
-        relays,
+        route: RecordRoute::None,
+        relays: relay_store::no_relays(),
     }
 }

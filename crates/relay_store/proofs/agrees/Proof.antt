@@ -59,7 +59,10 @@ zero-after-requires : tie.Need-zero-after-requires Inv-loop μ-loop
 zero-after-requires c κs = search needs
 
 -- what the test of a row told
-told : (c : tie.After-zero-after Inv-loop μ-loop) → Tells (ZeroFrom (rowAt (c .before .before .before .before .before .loop .i) (c .before .before .before .before .before .before .before .before .args .store .now)) (relayCount (c .before .before .before .before .before .before .before .before .args .t1) (c .before .before .before .before .before .loop .i))) (c .zero-after .result)
+told : (c : tie.After-zero-after Inv-loop μ-loop) →
+    let i = c .before .before .before .before .before .loop .i in
+    let a = c .before .before .before .before .before .before .before .before .args in
+    Tells (ZeroFrom (rowAt i (a .store .now)) (relayCount (a .t1) i)) (c .zero-after .result)
 told c =
     let v = c .before .before .before .before .before .loop in
     let a = c .before .before .before .before .before .before .before .before .args in

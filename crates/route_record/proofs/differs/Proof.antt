@@ -1,97 +1,45 @@
--- A destination that is missing has no record; one that is found has the relays of its row, and these are compared.
+-- A destination with no record differs; of one that has a record, the relays are compared.
 -- Assumes nothing.
-use Prim.Native.Nat.{_<_, _≤_}
-use native.Mathlib.Omega.{arith}
 use mathlib.Core.Bool.{not}
-use mathlib.Core.List.{map}
-use mathlib.Core.Path.{_≡_, sym, ap, _∙_}
-use lib.ListN.{length, take, getD}
-use Rattle.flat_map.specs.declared.Place.the-variants.{Found}
-use Rattle.flat_map.specs.Seek.{placeOf}
-use Rattle.standard.specs.Records.{sameRelays, otherRelays}
-use Rattle.standard.specs.Route.{nwk}
-use Rattle.record_table.specs.Table.{blankRecord}
-use Rattle.relay_store.specs.Store.{rowAt, relaysOf}
-use Rattle.relay_store.proofs.Rows.{wide-row}
-use Rattle.route_record.proofs.Held.{missing, found, within, few}
-use Rattle.route_record.proofs.Relays.{row-relays, made-relays, made-few}
+use mathlib.Core.Path.{ap, _∙_}
+use Rattle.relay_store.specs.Store.{relaysOf}
+use Rattle.route_record.specs.Answer.{recordAt, recordFound}
+use Rattle.route_record.proofs.Looked.{short-held, missing-other, found-few, found-other}
 use borrow.Author.Needs.{needs}
 use Rattle.route_record.proofs.differs.Statement.{statement}
 use Rattle.route_record.proofs.differs.Tie as tie
 
-place-of-requires : tie.Need-place-of-requires
-place-of-requires c κs = c .before .pre .0 .formed
-
-enum-known-place : tie.Need-enum-known-place
-enum-known-place c = search needs
+find-record-requires : tie.Need-find-record-requires
+find-record-requires c κs = search needs
 
 enum-told : tie.Need-enum-told
 enum-told c = search needs
 
+enum-told-2 : tie.Need-enum-told-2
+enum-told-2 c = search needs
+
 returns : tie.Need-returns
+unfolding recordFound
 returns c =
     let s = c .before .before .before .before in
-    let row = missing (s .args .t1) (s .args .store .now) (s .pre .0) _ _ (sym (c .enum-told .given .1) ∙ c .before .before .place-of .ensures) in
-    ap (otherRelays (relaysOf (s .args .relays))) (sym row)
-
--- the place that was found
-at : (c : tie.After-place) → Found (c .place .given .0 .0) ≡ placeOf (take (c .before .before .before .before .args .t1 .count) (c .before .before .before .before .args .t1 .keys)) (c .before .before .before .before .args .destination .0)
-at c = sym (c .place .given .1) ∙ c .before .before .place-of .ensures
-
-inside : (c : tie.After-place) → c .place .given .0 .0 < 64
-inside c =
-    let s = c .before .before .before .before in
-    within (s .args .t1) (s .args .store .now) (s .pre .0) _ _ (at c)
-
-mul-e : tie.Need-mul-e
-mul-e c = omega (arith, inside (c .before))
-
-element-copy-out-e : tie.Need-element-copy-out-e
-element-copy-out-e c = inside (c .before)
-
-cast-relays-at : tie.Need-cast-relays-at
-cast-relays-at c = search needs
-
-relays-at-requires : tie.Need-relays-at-requires
-relays-at-requires c κs =
-    let p = c .before .before .before in
-    let s = p .before .before .before .before in
-    (few (s .args .t1) (s .args .store .now) (s .pre .0) _ _ (at p), inside p, s .pre .0 .agrees .places)
-
--- its record has as many relays as its entry counts, and no more than 32
-short : (c : tie.After-place) → length (map nwk (take (getD (c .before .before .before .before .args .t1 .entries) (c .place .given .0 .0) blankRecord .«relay_count») (rowAt (c .place .given .0 .0) (c .before .before .before .before .args .store .now)))) ≤ 32
-short c =
-    let s = c .before .before .before .before in
-    let i = c .place .given .0 .0 in
-    let store = s .args .store .now in
-    let small = few (s .args .t1) store (s .pre .0) (s .args .destination .0) i (at c) in
-    omega (arith, small, row-relays (getD (s .args .t1 .entries) i blankRecord .«relay_count») (rowAt i store) (wide-row 64 i store (omega (arith, s .pre .0 .agrees .places)) (inside c)) small)
+    missing-other (c .before .before .find-record .result) (c .enum-told2 .given .1) (recordAt (s .args .destination) (s .args .t) (s .args .store .now)) (c .before .before .find-record .ensures) (relaysOf (s .args .relays))
 
 same-relays-requires : tie.Need-same-relays-requires
+unfolding recordFound
 same-relays-requires c κs =
-    let p = c .before .before .before .before in
-    (made-few _ _ (c .relays-at .ensures) (short p), p .before .before .before .before .pre .1)
+    let find = c .before .before .before in
+    let s = find .before .before in
+    (found-few (find .find-record .result) _ (c .before .enum-told .given .1) (recordAt (s .args .destination) (s .args .t) (s .args .store .now)) (find .find-record .ensures) (short-held (s .args .t) (s .args .store .now) (s .pre .0) (s .args .destination)), s .pre .1)
 
 returns-2 : tie.Need-returns-2
+unfolding recordFound
 returns-2 c =
-    let read = c .before in
-    let p = read .before .before .before .before in
-    let s = p .before .before .before .before in
-    let row = found (s .args .t1) (s .args .store .now) (s .pre .0) _ _ (at p) in
-    ap not (c .same-relays .ensures ∙ ap (λ r. sameRelays r (relaysOf (s .args .relays))) (made-relays _ _ (read .relays-at .ensures) (short p)))
-    ∙ ap (otherRelays (relaysOf (s .args .relays))) (sym row)
+    let find = c .before .before .before .before in
+    let s = find .before .before in
+    ap not (c .same-relays .ensures)
+    ∙ found-other (find .find-record .result) _ (c .before .before .enum-told .given .1) (recordAt (s .args .destination) (s .args .t) (s .args .store .now)) (find .find-record .ensures) (short-held (s .args .t) (s .args .store .now) (s .pre .0) (s .args .destination)) (relaysOf (s .args .relays))
 
 pub differs-spec : {M : Type 1} → statement M
 differs-spec =
     tie.close
-    (tie.spec
-    place-of-requires
-    enum-known-place
-    enum-told
-    returns
-    mul-e
-    element-copy-out-e
-    cast-relays-at
-    relays-at-requires
-    same-relays-requires
-    returns-2)
+    (tie.spec find-record-requires enum-told enum-told-2 returns same-relays-requires returns-2)

@@ -41,7 +41,10 @@ has-room-requires : tie.Need-has-room-requires Inv-loop μ-loop
 has-room-requires c κs = c .before .before .loop .inv .1 .formed
 
 -- the relay looked at is the first of those left
-next : (c : tie.After-a Inv-loop μ-loop) → drop (c .before .before .loop .i) (relaysOf (c .before .before .before .args .t3)) ≡ getD (c .before .before .before .args .t3 .addresses) (c .before .before .loop .i) (nwk 0) ∷ drop (c .before .before .loop .i + 1) (relaysOf (c .before .before .before .args .t3))
+next : (c : tie.After-a Inv-loop μ-loop) →
+    let i = c .before .before .loop .i in
+    let l = c .before .before .before .args .t3 in
+    drop i (relaysOf l) ≡ getD (l .addresses) i (nwk 0) ∷ drop (i + 1) (relaysOf l)
 next c =
     let s = c .before .before .before in
     relay-next (s .args .t3) (long s) (s .pre .1) (c .before .before .loop .i) (omega arith)

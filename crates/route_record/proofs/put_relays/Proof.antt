@@ -44,12 +44,17 @@ rest-requires : tie.Need-rest-requires Inv-loop μ-loop
 rest-requires c κs = search needs
 
 -- the relay looked at is the first of those left, and the list made names those after it
-next : (c : tie.After-a Inv-loop μ-loop) → drop (c .before .before .loop .i) (relaysOf (c .before .before .before .before .args .t3)) ≡ getD (c .before .before .before .before .args .t3 .addresses) (c .before .before .loop .i) (nwk 0) ∷ drop (c .before .before .loop .i + 1) (relaysOf (c .before .before .before .before .args .t3))
+next : (c : tie.After-a Inv-loop μ-loop) →
+    let i = c .before .before .loop .i in
+    let l = c .before .before .before .before .args .t3 in
+    drop i (relaysOf l) ≡ getD (l .addresses) i (nwk 0) ∷ drop (i + 1) (relaysOf l)
 next c =
     let s = c .before .before .before .before in
     relay-next (s .args .t3) (long s) (s .pre .1) (c .before .before .loop .i) (omega arith)
 
-way : (c : tie.After-rest Inv-loop μ-loop) → relaysOf (c .rest .result) ≡ drop (c .before .before .before .loop .i + 1) (relaysOf (c .before .before .before .before .before .args .t3))
+way : (c : tie.After-rest Inv-loop μ-loop) →
+    let i = c .before .before .before .loop .i in
+    relaysOf (c .rest .result) ≡ drop (i + 1) (relaysOf (c .before .before .before .before .before .args .t3))
 way c =
     let s = c .before .before .before .before .before in
     let v = c .before .before .before .loop in

@@ -35,7 +35,9 @@ returns c =
     )
 
 -- past the first test there is room
-free : (c : tie.Else1) → leb (length (recordStored (c .before .before .before .args .source) (relaysOf (c .before .before .before .args .relays)) (recordsOf (c .before .before .before .args .t) (c .before .before .before .args .store .now)))) 64 ≡ true
+free : (c : tie.Else1) →
+    let a = c .before .before .before .args in
+    leb (length (recordStored (a .source) (relaysOf (a .relays)) (recordsOf (a .t) (a .store .now)))) 64 ≡ true
 free c =
     let s = c .before .before .before in
     sym (c .before .has-room .ensures ∙ room-is (s .args .t) (s .args .store .now) (s .pre .0) (s .args .source) (relaysOf (s .args .relays))) ∙ not-false _ (c .if1 .left)
