@@ -5,3 +5,4 @@ pub mod Room
 pub mod Storing
 pub mod Kept
 pub mod Fresh
+pub mod Among
