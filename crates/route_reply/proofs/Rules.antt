@@ -16,8 +16,8 @@ use Rattle.standard.specs.declared.Update.the-variants.{Same}
 use Rattle.standard.specs.declared.RouteReplyDisposition.the-variants.{Drop, Established, Relay}
 use Rattle.standard.specs.Discovery.{discoveryKey}
 use Rattle.standard.specs.Ordered.{lookup, put, countWith}
-use Rattle.standard.specs.Reply.{Replied, dropped, settled, written, established, relayedTo}
-use Rattle.standard.specs.Route.{routeKey, routeOr, suits, via, considered}
+use Rattle.standard.specs.Reply.{Replied, dropped, settled, written, established, relayedTo, dropOurs, replyOurs, replyTheirs}
+use Rattle.standard.specs.Route.{routeKey, routeOr, suits, via, considered, news}
 use Rattle.standard.specs.Tables.{Tables}
 use Rattle.flat_map.proofs.Fits.{fit-put, room-known}
 use Rattle.flat_map.proofs.Ordered.{lookup-key}
@@ -57,6 +57,22 @@ module _ (t : SearchTables) (w : WellFormed t) where
       routes = fit-put 64 routeKey blankRoute (tablesOf t .routes) (search-fits t w .routes) (via sender cost e) route-room;
       discoveries = fit-put 32 discoveryKey blankDiscovery (tablesOf t .discoveries) (search-fits t w .discoveries) (settled cost d) discovery-room;
     }
+
+    -- a reply to our own search that is not dropped: what is reported, and the tables written
+    pub ours-taken : (sender : Nwk) (cost : ℕ) (u : Update) (x : SearchTables) → dropOurs cost d e ≡ false → u ≡ news sender cost e
+        → x ≡ packed (written sender cost d e (tablesOf t)) → _≡_ {A = ReplyStep} (record { answer = Answered Established u; tables = x }) (answered t (replyOurs sender cost d e (tablesOf t)))
+    unfolding replyOurs
+    ours-taken sender cost u x b p q = rw (b, p, q) (sym (answered-good t (established sender cost d e (tablesOf t)) (written-fits sender cost)))
+
+-- a reply that the rule drops
+module _ (t : SearchTables) (sender : Nwk) (cost : ℕ) (d : DiscoveryEntry) (e : RouteEntry) where
+  pub ours-dropped : dropOurs cost d e ≡ true → answered t (dropped (tablesOf t)) ≡ answered t (replyOurs sender cost d e (tablesOf t))
+  unfolding replyOurs
+  ours-dropped b = rw b
+
+  pub theirs-dropped : (originator : Nwk) → d .«residual_cost» ≤ cost → answered t (dropped (tablesOf t)) ≡ answered t (replyTheirs originator sender cost d e (tablesOf t))
+  unfolding replyTheirs
+  theirs-dropped originator h = rw (le-leb _ _ h)
 
 -- the originator's route after it considered a hop, in rows that fit
 module _ (t : Tables) (f : Fits t) (originator hop : Nwk) (forward : ℕ) where

@@ -2,13 +2,13 @@
 -- Assumes nothing.
 use mathlib.Core.Path.{ap, _∙_}
 use borrow.Author.Needs.{needs}
-use borrow.Author.Tests.{le-leb, lt-leb}
+use borrow.Author.Tests.{lt-leb}
 use Rattle.standard.specs.Reply.{replyTheirs, relayedTo, written}
 use Rattle.standard.specs.Tables.{Tables}
 use Rattle.search_tables.specs.Packed.{tablesOf}
 use Rattle.search_tables.proofs.Packing.{packed-formed, packed-rows}
 use Rattle.route_reply.specs.Answer.{answered}
-use Rattle.route_reply.proofs.Rules.{written-fits}
+use Rattle.route_reply.proofs.Rules.{written-fits, theirs-dropped}
 use Rattle.route_reply.proofs.reply_theirs.Statement.{statement}
 use Rattle.route_reply.proofs.reply_theirs.Tie as tie
 
@@ -16,8 +16,9 @@ drop-reply-requires : tie.Need-drop-reply-requires
 drop-reply-requires c κs = search needs
 
 returns : tie.Need-returns
-unfolding replyTheirs
-returns c = c .drop-reply .ensures ∙ rw (le-leb _ _ (c .before .if1 .taken))
+returns c =
+    let a = c .before .before .before .args in
+    c .drop-reply .ensures ∙ theirs-dropped (a .t) (a .sender) (a .cost) (a .d) (a .e) (a .originator) (c .before .if1 .taken)
 
 write-reply-requires : tie.Need-write-reply-requires
 write-reply-requires c κs = search needs
