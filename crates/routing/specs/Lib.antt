@@ -3,3 +3,4 @@ pub mod Search
 pub mod Routes
 pub mod Queries
 pub mod Numbers
+pub mod Records

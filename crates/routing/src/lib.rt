@@ -1,5 +1,6 @@
 // The routing state by value, and every call on it. Each call is a test of the state and a core form behind it, for proved callers.
 mod queries;
+mod records;
 mod routes;
 
 use discovery_table::Deadline;
@@ -11,12 +12,14 @@ use route_begin::BeginStep;
 use route_calls::Checked;
 use route_calls::RouteAnswer;
 use route_calls::StatusAnswer;
+use route_record::RecordAnswer;
 use route_reply::ReplyAnswer;
 use route_request::RequestAnswer;
 use route_table::RouteLookup;
 use route_table::RouteTable;
 use search_tables::SearchTables;
 use standard::ManyToOne;
+use standard::RelayList;
 use types::Nwk;
 use types::Refusal;
 ghost use mathlib.Core.Path.{_≡_};
@@ -115,6 +118,26 @@ pub struct RouteRequestOutcome {
 pub struct BeginOutcome {
     pub answer: BeginAnswer,
     pub state: Routing,
+}
+
+// That a route record changed what is known of its source, and the state after it.
+pub struct RecordOutcome {
+    pub answer: RecordAnswer,
+    pub state: Routing,
+}
+
+// The way to a destination, asked.
+pub enum RouteToAnswer {
+    Refused(Refusal),
+    NoRoute,
+    NextHop(Nwk),
+    SourceRoute,
+}
+
+// The relays of a source route are beside the answer; they are blank beside any other.
+pub struct RouteToOutcome {
+    pub answer: RouteToAnswer,
+    pub relays: RelayList,
 }
 
 impl Routing {

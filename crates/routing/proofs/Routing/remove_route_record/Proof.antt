@@ -1,0 +1,67 @@
+-- A state that is not well formed and a store that disagrees are refused; any other pair goes to the core form.
+-- Assumes nothing.
+use mathlib.Core.Path.{sym, _∙_}
+use borrow.Author.Needs.{needs}
+use borrow.Author.Tests.{not-true, not-false}
+use Rattle.routing.specs.Records.{removeRouteRecord, storeAfterRemoval}
+use Rattle.relay_store.proofs.Agree.{agrees-told}
+use Rattle.routing.proofs.State.{state-told}
+use Rattle.routing.proofs.Routing.remove_route_record.Statement.{statement}
+use Rattle.routing.proofs.Routing.remove_route_record.Tie as tie
+
+well-formed-requires : tie.Need-well-formed-requires
+well-formed-requires c κs = search needs
+
+refuse-removal-requires : tie.Need-refuse-removal-requires
+refuse-removal-requires c κs = search needs
+
+returns : tie.Need-returns
+unfolding removeRouteRecord storeAfterRemoval
+returns c =
+    let ill = sym (c .before .before .well-formed .ensures) ∙ not-true _ (c .before .if1 .taken) in
+    (rw ill (c .refuse-removal .ensures), rw ill)
+
+agrees-requires : tie.Need-agrees-requires
+agrees-requires c κs = search needs
+
+refuse-removal-requires-2 : tie.Need-refuse-removal-requires-2
+refuse-removal-requires-2 c κs = search needs
+
+same-length : tie.Need-same-length
+same-length c = search needs
+
+returns-2 : tie.Need-returns-2
+unfolding removeRouteRecord storeAfterRemoval
+returns-2 c =
+    let good = sym (c .before .before .before .before .before .before .well-formed .ensures) ∙ not-false _ (c .before .before .before .before .before .if1 .left) in
+    let off = sym (c .before .before .agrees .ensures) ∙ not-true _ (c .before .if2 .taken) in
+    (rw (good, off) (c .refuse-removal2 .ensures), rw (good, off))
+
+remove-route-record-core-requires : tie.Need-remove-route-record-core-requires
+remove-route-record-core-requires c κs =
+    (state-told _ .fact (sym (c .before .before .before .before .before .before .well-formed .ensures) ∙ not-false _ (c .before .before .before .before .before .if1 .left)), agrees-told _ _ .fact (sym (c .before .before .agrees .ensures) ∙ not-false _ (c .before .if2 .left)))
+
+same-length-2 : tie.Need-same-length-2
+same-length-2 c = search needs
+
+returns-3 : tie.Need-returns-3
+unfolding removeRouteRecord storeAfterRemoval
+returns-3 c =
+    let good = sym (c .before .before .before .before .before .before .before .before .before .well-formed .ensures) ∙ not-false _ (c .before .before .before .before .before .before .before .before .if1 .left) in
+    let fit = sym (c .before .before .before .before .before .agrees .ensures) ∙ not-false _ (c .before .before .before .before .if2 .left) in
+    (rw (good, fit) (c .before .before .remove-route-record-core .ensures .0), rw (good, fit) (c .before .before .remove-route-record-core .ensures .1))
+
+pub remove-route-record-spec : {M : Type 1} → statement M
+remove-route-record-spec =
+    tie.close
+    (tie.spec
+    well-formed-requires
+    refuse-removal-requires
+    returns
+    agrees-requires
+    refuse-removal-requires-2
+    same-length
+    returns-2
+    remove-route-record-core-requires
+    same-length-2
+    returns-3)

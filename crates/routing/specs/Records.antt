@@ -1,0 +1,126 @@
+-- The exported calls on route records, whose relays are in a lent store: the answer and the state, and the store after the call.
+-- Document 01, "Route rules", "Route record" and "Route to D"; "Refusal numbers", 10, 9 and 8 before the call, 3 and 6 in it.
+-- Assumes nothing.
+use Prim.Native.Nat.{ℕ}
+use mathlib.Core.Bool.{cond}
+use mathlib.Core.List.{List, []}
+use lib.Dec.{ltb}
+use Rattle.types.specs.declared.Nwk.{Nwk}
+use Rattle.types.specs.declared.Refusal.{Refusal}
+use Rattle.types.specs.declared.Refusal.the-variants.{StateIllFormed, StoreDisagrees, ListTooLong, UnknownNextHop}
+use Rattle.standard.specs.declared.RecordRoute.{RecordRoute}
+use Rattle.standard.specs.declared.RecordRoute.the-variants as record-route
+use Rattle.standard.specs.declared.RelayList.{RelayList}
+use Rattle.standard.specs.Calls.{hopAt}
+use Rattle.route_table.specs.Table.{rowsOf}
+use Rattle.record_table.specs.declared.RecordTable.{RecordTable}
+use Rattle.relay_store.specs.Store.{relaysOf, relayList, agrees}
+use Rattle.route_calls.specs.declared.HopAnswer.{HopAnswer}
+use Rattle.route_calls.specs.declared.HopAnswer.the-variants as hop
+use Rattle.route_calls.specs.Answer.{hopAnswer}
+use Rattle.route_record.specs.declared.RecordAnswer.the-variants as record-answer
+use Rattle.route_record.specs.declared.RecordStep.{RecordStep}
+use Rattle.route_record.specs.declared.RecordRemoved.{RecordRemoved}
+use Rattle.route_record.specs.declared.RecordWay.{RecordWay}
+use Rattle.route_record.specs.Answer.{storedStep, storedStore, removedStep, removedStore, wayTo}
+use Rattle.routing.specs.declared.Routing.{Routing}
+use Rattle.routing.specs.declared.RecordOutcome.{RecordOutcome}
+use Rattle.routing.specs.declared.RouteToAnswer.{RouteToAnswer}
+use Rattle.routing.specs.declared.RouteToAnswer.the-variants as way
+use Rattle.routing.specs.declared.RouteToOutcome.{RouteToOutcome}
+use Rattle.routing.specs.declared.ToldAnswer.the-variants as told
+use Rattle.routing.specs.declared.ToldOutcome.{ToldOutcome}
+use Rattle.routing.specs.State.{wellFormed}
+
+-- the state with its record table replaced
+abbrev pub withRecords : Routing → RecordTable → Routing
+withRecords s t = record {
+  «mtorr_route_errors» = s .«mtorr_route_errors»;
+  «mtorr_delivery_failures» = s .«mtorr_delivery_failures»;
+  «route_table» = s .«route_table»;
+  «discovery_table» = s .«discovery_table»;
+  «route_record_table» = t;
+  «request_sequence_number» = s .«request_sequence_number»;
+}
+
+abbrev pub recordedIn : Routing → RecordStep → RecordOutcome
+recordedIn s x = record { answer = x .answer; state = withRecords s (x .table) }
+
+abbrev pub unrecordedIn : Routing → RecordRemoved → ToldOutcome
+unrecordedIn s x = record { answer = told.Told (x .removed); state = withRecords s (x .table) }
+
+-- "All hand back the given state .. and store unchanged and no other answer."
+abbrev pub refusedRecord : Routing → Refusal → RecordOutcome
+refusedRecord s n = record { answer = record-answer.Refused n; state = s }
+
+abbrev pub refusedRemoval : Routing → Refusal → ToldOutcome
+refusedRemoval s n = record { answer = told.Refused n; state = s }
+
+abbrev pub refusedWay : Refusal → RouteToOutcome
+refusedWay n = record { answer = way.Refused n; relays = relayList [] }
+
+-- A route record of a source: the answer and the state, and the store after it.
+abbrev pub storeRouteRecordCore : Routing → Nwk → RelayList → List ℕ → RecordOutcome
+storeRouteRecordCore s source relays store = recordedIn s (storedStep source (relaysOf relays) (s .«route_record_table») store)
+
+abbrev pub storeAfterRecordCore : Routing → Nwk → RelayList → List ℕ → List ℕ
+storeAfterRecordCore s source relays store = storedStore source (relaysOf relays) (s .«route_record_table») store
+
+unfoldable pub storeRouteRecord : Routing → Nwk → RelayList → List ℕ → RecordOutcome
+storeRouteRecord s source relays store =
+    cond (wellFormed s)
+    (cond (agrees (s .«route_record_table») store)
+    (cond (ltb 32 (relays .count)) (refusedRecord s ListTooLong) (storeRouteRecordCore s source relays store))
+    (refusedRecord s StoreDisagrees))
+    (refusedRecord s StateIllFormed)
+
+unfoldable pub storeAfterRecord : Routing → Nwk → RelayList → List ℕ → List ℕ
+storeAfterRecord s source relays store =
+    cond (wellFormed s)
+    (cond (agrees (s .«route_record_table») store) (cond (ltb 32 (relays .count)) store (storeAfterRecordCore s source relays store)) store)
+    store
+
+-- The record of a destination is removed; whether there was one, and the store after it.
+abbrev pub removeRouteRecordCore : Routing → Nwk → List ℕ → ToldOutcome
+removeRouteRecordCore s destination store = unrecordedIn s (removedStep destination (s .«route_record_table») store)
+
+abbrev pub storeAfterRemovalCore : Routing → Nwk → List ℕ → List ℕ
+storeAfterRemovalCore s destination store = removedStore destination (s .«route_record_table») store
+
+unfoldable pub removeRouteRecord : Routing → Nwk → List ℕ → ToldOutcome
+removeRouteRecord s destination store =
+    cond (wellFormed s)
+    (cond (agrees (s .«route_record_table») store) (removeRouteRecordCore s destination store) (refusedRemoval s StoreDisagrees))
+    (refusedRemoval s StateIllFormed)
+
+unfoldable pub storeAfterRemoval : Routing → Nwk → List ℕ → List ℕ
+storeAfterRemoval s destination store =
+    cond (wellFormed s) (cond (agrees (s .«route_record_table») store) (storeAfterRemovalCore s destination store) store) store
+
+-- "the hop to be returned, by .. the route query .., is 0xFFFF from an Active route": 6
+abbrev pub hopTo : HopAnswer → RouteToAnswer
+hopTo hop.NoRoute = way.NoRoute
+hopTo (hop.Hop n) = way.NextHop n
+hopTo hop.Unknown = way.Refused UnknownNextHop
+
+-- "an empty record is direct; fewer relays than the limit give a source route; else the Active route"
+abbrev pub answerBy : Routing → Nwk → RecordRoute → RouteToAnswer
+answerBy s destination record-route.Direct = way.NextHop destination
+answerBy s destination record-route.SourceRoute = way.SourceRoute
+answerBy s destination record-route.None = hopTo (hopAnswer (hopAt (destination .0) (rowsOf (s .«route_table»))))
+
+abbrev pub wayIn : Routing → Nwk → RecordWay → RouteToOutcome
+wayIn s destination x = record { answer = answerBy s destination (x .route); relays = x .relays }
+
+-- The way to a destination, by a limit on the relays and by the default policy: "longest source route 12".
+abbrev pub routeToCore : Routing → Nwk → ℕ → List ℕ → RouteToOutcome
+routeToCore s destination limit store = wayIn s destination (wayTo destination limit (s .«route_record_table») store)
+
+unfoldable pub routeTo : Routing → Nwk → ℕ → List ℕ → RouteToOutcome
+routeTo s destination limit store =
+    cond (wellFormed s)
+    (cond (agrees (s .«route_record_table») store) (routeToCore s destination limit store) (refusedWay StoreDisagrees))
+    (refusedWay StateIllFormed)
+
+abbrev pub routeToDefault : Routing → Nwk → List ℕ → RouteToOutcome
+routeToDefault s destination store = routeTo s destination 12 store

@@ -1,0 +1,196 @@
+// The calls on route records, whose relays are in a lent store.
+use crate::RecordOutcome;
+use crate::RouteToAnswer;
+use crate::RouteToOutcome;
+use crate::Routing;
+use crate::ToldAnswer;
+use crate::ToldOutcome;
+use record_table::RecordTable;
+use route_calls::HopAnswer;
+use route_record::RecordAnswer;
+use standard::RecordRoute;
+use standard::RelayList;
+use types::Nwk;
+use types::Refusal;
+ghost use mathlib.Core.Path.{_≡_};
+ghost use Prim.Native.Nat.{_≤_};
+ghost use Rattle.relay_store.specs.Store.{Agrees};
+ghost use Rattle.routing.specs.State.{WellFormed};
+ghost use Rattle.routing.specs.Records.{withRecords, refusedRecord, refusedRemoval, refusedWay, storeRouteRecordCore, storeRouteRecord, storeAfterRecordCore, storeAfterRecord, removeRouteRecordCore, removeRouteRecord, storeAfterRemovalCore, storeAfterRemoval, hopTo, answerBy, routeToCore, routeTo, routeToDefault};
+
+// The hop that the route table names, as the way: one that is not known is refusal 6.
+fn hop_to(hop: HopAnswer) -> RouteToAnswer
+    ensures { λ r. ⌜ r ≡ hopTo hop ⌝ }
+{
+    match hop {
+        HopAnswer::NoRoute => RouteToAnswer::NoRoute,
+        HopAnswer::Hop(n) => RouteToAnswer::NextHop(n),
+        HopAnswer::Unknown => RouteToAnswer::Refused(Refusal::UnknownNextHop),
+    }
+}
+
+// No way, for a refusal.
+fn refuse_way(refusal: Refusal) -> RouteToOutcome
+    ensures { λ r. ⌜ r ≡ refusedWay refusal ⌝ }
+{
+    let relays = relay_store::no_relays();
+    RouteToOutcome {
+        answer: RouteToAnswer::Refused(refusal),
+        relays,
+    }
+}
+
+impl Routing {
+    // The state with its record table put back.
+    fn with_records(self, t: RecordTable) -> Routing
+        ensures { λ r. ⌜ r ≡ withRecords self t ⌝ }
+    {
+        let mut s = self;
+        s.route_record_table = t;
+        s
+    }
+
+    // The state as it came, for a refusal.
+    fn refuse_record(self, refusal: Refusal) -> RecordOutcome
+        ensures { λ r. ⌜ r ≡ refusedRecord self refusal ⌝ }
+    {
+        RecordOutcome {
+            answer: RecordAnswer::Refused(refusal),
+            state: self,
+        }
+    }
+
+    // The state as it came, for a refusal.
+    fn refuse_removal(self, refusal: Refusal) -> ToldOutcome
+        ensures { λ r. ⌜ r ≡ refusedRemoval self refusal ⌝ }
+    {
+        ToldOutcome {
+            answer: ToldAnswer::Refused(refusal),
+            state: self,
+        }
+    }
+
+    pub fn store_route_record_core(
+        self,
+        store: &mut [u16],
+        source: Nwk,
+        relays: RelayList,
+    ) -> RecordOutcome
+        requires { ⌜ WellFormed self × Agrees (self .«route_record_table») (now store) × (relays .count ≤ 32) ⌝ }
+        ensures { λ r. ⌜ r ≡ storeRouteRecordCore self source relays (now (store .entry)) ⌝ }
+        ensures { λ _. ⌜ now (store .exit) ≡ storeAfterRecordCore self source relays (now (store .entry)) ⌝ }
+    {
+        let t = self.route_record_table;
+        let x = route_record::store_record(t, store, source, relays);
+        let answer = x.answer;
+        let u = x.table;
+        let state = self.with_records(u);
+        RecordOutcome { answer, state }
+    }
+
+    // A route record of a source: each relay gets the relays after it, and then the source gets all of them.
+    pub fn store_route_record(
+        self,
+        store: &mut [u16],
+        source: Nwk,
+        relays: RelayList,
+    ) -> RecordOutcome
+        ensures { λ r. ⌜ r ≡ storeRouteRecord self source relays (now (store .entry)) ⌝ }
+        ensures { λ _. ⌜ now (store .exit) ≡ storeAfterRecord self source relays (now (store .entry)) ⌝ }
+    {
+        if !self.well_formed() {
+            return self.refuse_record(Refusal::StateIllFormed);
+        }
+        let t = self.route_record_table;
+        if !relay_store::agrees(t, store) {
+            return self.refuse_record(Refusal::StoreDisagrees);
+        }
+        if 32 < relays.count {
+            return self.refuse_record(Refusal::ListTooLong);
+        }
+        self.store_route_record_core(store, source, relays)
+    }
+
+    pub fn remove_route_record_core(self, store: &mut [u16], destination: Nwk) -> ToldOutcome
+        requires { ⌜ WellFormed self × Agrees (self .«route_record_table») (now store) ⌝ }
+        ensures { λ r. ⌜ r ≡ removeRouteRecordCore self destination (now (store .entry)) ⌝ }
+        ensures { λ _. ⌜ now (store .exit) ≡ storeAfterRemovalCore self destination (now (store .entry)) ⌝ }
+    {
+        let t = self.route_record_table;
+        let x = route_record::remove_record(t, store, destination);
+        let u = x.table;
+        let state = self.with_records(u);
+        ToldOutcome {
+            answer: ToldAnswer::Told(x.removed),
+            state,
+        }
+    }
+
+    // The record of a destination is removed; whether there was one.
+    pub fn remove_route_record(self, store: &mut [u16], destination: Nwk) -> ToldOutcome
+        ensures { λ r. ⌜ r ≡ removeRouteRecord self destination (now (store .entry)) ⌝ }
+        ensures { λ _. ⌜ now (store .exit) ≡ storeAfterRemoval self destination (now (store .entry)) ⌝ }
+    {
+        if !self.well_formed() {
+            return self.refuse_removal(Refusal::StateIllFormed);
+        }
+        let t = self.route_record_table;
+        if !relay_store::agrees(t, store) {
+            return self.refuse_removal(Refusal::StoreDisagrees);
+        }
+        self.remove_route_record_core(store, destination)
+    }
+
+    // What a record's word on the way comes to: where it names none, the Active route decides.
+    fn answer_by(self, destination: Nwk, way: RecordRoute) -> RouteToAnswer
+        requires { ⌜ WellFormed self ⌝ }
+        ensures { λ r. ⌜ r ≡ answerBy self destination way ⌝ }
+    {
+        match way {
+            RecordRoute::Direct => RouteToAnswer::NextHop(destination),
+            RecordRoute::SourceRoute => RouteToAnswer::SourceRoute,
+            RecordRoute::None => {
+                let routes = self.route_table;
+                hop_to(route_calls::next_hop(routes, destination))
+            }
+        }
+    }
+
+    pub fn route_to_core(
+        self,
+        store: &[u16],
+        destination: Nwk,
+        max_source_route: u8,
+    ) -> RouteToOutcome
+        requires { ⌜ WellFormed self × Agrees (self .«route_record_table») (now store) ⌝ }
+        ensures { λ r. ⌜ r ≡ routeToCore self destination «max_source_route» (now (store .entry)) ⌝ }
+    {
+        let t = self.route_record_table;
+        let x = route_record::way_to(t, store, destination, max_source_route);
+        let way = x.route;
+        let relays = x.relays;
+        let answer = self.answer_by(destination, way);
+        RouteToOutcome { answer, relays }
+    }
+
+    // The way to a destination: direct, by the relays of its record if they are fewer than the limit, or by the Active route.
+    pub fn route_to(self, store: &[u16], destination: Nwk, max_source_route: u8) -> RouteToOutcome
+        ensures { λ r. ⌜ r ≡ routeTo self destination «max_source_route» (now (store .entry)) ⌝ }
+    {
+        if !self.well_formed() {
+            return refuse_way(Refusal::StateIllFormed);
+        }
+        let t = self.route_record_table;
+        if !relay_store::agrees(t, store) {
+            return refuse_way(Refusal::StoreDisagrees);
+        }
+        self.route_to_core(store, destination, max_source_route)
+    }
+
+    // The way to a destination by the default policy, whose limit is 12.
+    pub fn route_to_default(self, store: &[u16], destination: Nwk) -> RouteToOutcome
+        ensures { λ r. ⌜ r ≡ routeToDefault self destination (now (store .entry)) ⌝ }
+    {
+        self.route_to(store, destination, 12)
+    }
+}
