@@ -8,3 +8,6 @@ pub mod P6
 pub mod P7
 pub mod P8
 pub mod P12
+pub mod P9
+pub mod P10
+pub mod P11

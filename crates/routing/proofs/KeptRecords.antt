@@ -1,0 +1,100 @@
+-- The calls on route records keep a well-formed state and a store that agrees with it so: records that were put where there is
+-- room, or removed, are packed into both. A refused call leaves the store's every number, by the definitions.
+use Prim.Native.Nat.{ℕ, _≤_}
+use mathlib.Core.Bool.{Bool, true, false, cond}
+use mathlib.Core.List.{List}
+use mathlib.Core.Path.{_≡_, refl}
+use native.Mathlib.Omega.{arith}
+use borrow.Author.Tests.{leb-true, ltb-false}
+use lib.Dec.{leb, ltb}
+use lib.ListN.{length}
+use Rattle.types.specs.declared.Nwk.{Nwk}
+use Rattle.types.specs.declared.Refusal.{Refusal}
+use Rattle.standard.specs.declared.RelayList.{RelayList}
+use Rattle.standard.specs.Ordered.{remove}
+use Rattle.standard.specs.Records.{addressKey, recordFor, relaysStored, recordStored}
+use Rattle.record_table.specs.declared.RecordTable.{RecordTable}
+use Rattle.relay_store.specs.Packed.{recordsOf, Together}
+use Rattle.relay_store.specs.Store.{Agrees, relaysOf, agrees}
+use Rattle.relay_store.proofs.Packing.{packed-together}
+use Rattle.relay_store.proofs.Steps.{fits-put, fits-remove}
+use Rattle.route_record.specs.declared.RecordAnswer.the-variants.{Refused, Stored}
+use Rattle.route_record.specs.declared.RecordStep.{RecordStep}
+use Rattle.route_record.specs.Answer.{storedStep, storedStore, removedStep, removedStore}
+use Rattle.route_record.proofs.Held.{fits, relays-count}
+use Rattle.route_record.proofs.Storing.{relays-fit}
+use Rattle.routing.specs.declared.Routing.{Routing}
+use Rattle.routing.specs.declared.RecordOutcome.{RecordOutcome}
+use Rattle.routing.specs.declared.ToldOutcome.{ToldOutcome}
+use Rattle.routing.specs.Records.{withRecords, storeRouteRecord, storeAfterRecord, removeRouteRecord, storeAfterRemoval}
+use Rattle.routing.specs.State.{WellFormed, wellFormed}
+
+-- a well-formed state and a store that agrees with it
+pub record Held (s : Routing) (store : List ℕ) : Type 0 where
+  pub formed : WellFormed s
+  pub agreed : Agrees (s .«route_record_table») store
+
+-- an outcome and a store by the same test
+both-by : {A B : Type 0} (P : A → B → Type 0) (b : Bool) (x y : A) (u v : B) → (b ≡ true → P x u) → (b ≡ false → P y v) → P (cond b x y) (cond b u v)
+both-by P true x y u v p q = p refl
+both-by P false x y u v p q = q refl
+
+stored-together : (t : RecordTable) (store : List ℕ) → Together t store → (source : Nwk) (relays : List Nwk) → length relays ≤ 32
+    → Together (storedStep source relays t store .table) (storedStore source relays t store)
+unfolding storedStep storedStore recordStored
+stored-together t store g source relays short =
+    both-by (λ (x : RecordStep) (u : List ℕ). Together (x .table) u) (leb (length (recordStored source relays (recordsOf t store))) 64) _ _ _ _
+    (λ free. packed-together (recordStored source relays (recordsOf t store)) (fits-put (relaysStored relays (recordsOf t store)) (relays-fit t store g source relays short free) (recordFor source relays) (leb-true _ 64 free) short))
+    (λ _. g)
+
+removed-together : (t : RecordTable) (store : List ℕ) → Together t store → (d : Nwk) → Together (removedStep d t store .table) (removedStore d t store)
+unfolding removedStep removedStore
+removed-together t store g d = packed-together (remove addressKey (d .0) (recordsOf t store)) (fits-remove (recordsOf t store) (fits t store g) (d .0))
+
+module _ (s : Routing) (store : List ℕ) (h : Held s store) where
+  together : Together (s .«route_record_table») store
+  together = record { formed = h .formed .records; agrees = h .agreed }
+
+  put-in : (t : RecordTable) (after : List ℕ) → Together t after → Held (withRecords s t) after
+  put-in t after g = record { formed = record { routes = h .formed .routes; discoveries = h .formed .discoveries; records = g .formed }; agreed = g .agrees }
+
+  pub store-route-record-kept : (source : Nwk) (relays : RelayList) → length (relays .addresses) ≡ 32
+      → Held (storeRouteRecord s source relays store .state) (storeAfterRecord s source relays store)
+  unfolding storeRouteRecord storeAfterRecord
+  store-route-record-kept source relays long =
+      kept (wellFormed s) _ _ _ _
+      (λ _. kept (agrees (s .«route_record_table») store) _ _ _ _
+      (λ _. kept (ltb 32 (relays .count)) _ _ _ _ (λ _. h) (λ e. put-in _ _ (stored-together (s .«route_record_table») store together source (relaysOf relays) (few (ltb-false 32 (relays .count) e)))))
+      (λ _. h))
+      (λ _. h) where
+        kept : (b : Bool) (x y : RecordOutcome) (u v : List ℕ) → (b ≡ true → Held (x .state) u) → (b ≡ false → Held (y .state) v) → Held (cond b x y .state) (cond b u v)
+        kept = both-by (λ (x : RecordOutcome) (u : List ℕ). Held (x .state) u)
+
+        few : relays .count ≤ 32 → length (relaysOf relays) ≤ 32
+        few l = omega (arith, relays-count relays long l)
+
+  pub remove-route-record-kept : (d : Nwk) → Held (removeRouteRecord s d store .state) (storeAfterRemoval s d store)
+  unfolding removeRouteRecord storeAfterRemoval
+  remove-route-record-kept d =
+      kept (wellFormed s) _ _ _ _
+      (λ _. kept (agrees (s .«route_record_table») store) _ _ _ _ (λ _. put-in _ _ (removed-together (s .«route_record_table») store together d)) (λ _. h))
+      (λ _. h) where
+        kept : (b : Bool) (x y : ToldOutcome) (u v : List ℕ) → (b ≡ true → Held (x .state) u) → (b ≡ false → Held (y .state) v) → Held (cond b x y .state) (cond b u v)
+        kept = both-by (λ (x : ToldOutcome) (u : List ℕ). Held (x .state) u)
+
+stored-never : (b : Bool) (n : Refusal) (u v : List ℕ) → Stored b ≡ Refused n → u ≡ v
+stored-never b n u v e = cc
+
+-- a refused route record leaves the store, whatever state and store are
+pub refused-record-store : (s : Routing) (store : List ℕ) (source : Nwk) (relays : RelayList) (n : Refusal)
+    → storeRouteRecord s source relays store .answer ≡ Refused n → storeAfterRecord s source relays store ≡ store
+unfolding storeRouteRecord storeAfterRecord storedStep storedStore
+refused-record-store s store source relays n =
+    stays (wellFormed s) _ _ _ _
+    (λ _. stays (agrees (s .«route_record_table») store) _ _ _ _
+    (λ _. stays (ltb 32 (relays .count)) _ _ _ _ (λ _ _. refl)
+    (λ _. both-by (λ (x : RecordStep) (u : List ℕ). x .answer ≡ Refused n → u ≡ store) (leb (length (recordStored source (relaysOf relays) (recordsOf (s .«route_record_table») store))) 64) _ _ _ _ (λ _ e. stored-never _ n _ store e) (λ _ _. refl)))
+    (λ _ _. refl))
+    (λ _ _. refl) where
+      stays : (b : Bool) (x y : RecordOutcome) (u v : List ℕ) → (b ≡ true → x .answer ≡ Refused n → u ≡ store) → (b ≡ false → y .answer ≡ Refused n → v ≡ store) → cond b x y .answer ≡ Refused n → cond b u v ≡ store
+      stays = both-by (λ (x : RecordOutcome) (u : List ℕ). x .answer ≡ Refused n → u ≡ store)
