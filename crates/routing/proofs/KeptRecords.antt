@@ -25,6 +25,7 @@ use Rattle.route_record.proofs.Held.{fits, relays-count}
 use Rattle.route_record.proofs.Storing.{relays-fit}
 use Rattle.routing.specs.declared.Routing.{Routing}
 use Rattle.routing.specs.declared.RecordOutcome.{RecordOutcome}
+use Rattle.routing.specs.declared.ToldAnswer.the-variants as told
 use Rattle.routing.specs.declared.ToldOutcome.{ToldOutcome}
 use Rattle.routing.specs.Records.{withRecords, storeRouteRecord, storeAfterRecord, removeRouteRecord, storeAfterRemoval}
 use Rattle.routing.specs.State.{WellFormed, wellFormed}
@@ -98,3 +99,17 @@ refused-record-store s store source relays n =
     (λ _ _. refl) where
       stays : (b : Bool) (x y : RecordOutcome) (u v : List ℕ) → (b ≡ true → x .answer ≡ Refused n → u ≡ store) → (b ≡ false → y .answer ≡ Refused n → v ≡ store) → cond b x y .answer ≡ Refused n → cond b u v ≡ store
       stays = both-by (λ (x : RecordOutcome) (u : List ℕ). x .answer ≡ Refused n → u ≡ store)
+
+told-never : (b : Bool) (n : Refusal) (u v : List ℕ) → told.Told b ≡ told.Refused n → u ≡ v
+told-never b n u v e = cc
+
+-- a refused removal leaves the store, whatever state and store are
+pub refused-removal-store : (s : Routing) (store : List ℕ) (d : Nwk) (n : Refusal)
+    → removeRouteRecord s d store .answer ≡ told.Refused n → storeAfterRemoval s d store ≡ store
+unfolding removeRouteRecord storeAfterRemoval
+refused-removal-store s store d n =
+    stays (wellFormed s) _ _ _ _
+    (λ _. stays (agrees (s .«route_record_table») store) _ _ _ _ (λ _ e. told-never _ n _ store e) (λ _ _. refl))
+    (λ _ _. refl) where
+      stays : (b : Bool) (x y : ToldOutcome) (u v : List ℕ) → (b ≡ true → x .answer ≡ told.Refused n → u ≡ store) → (b ≡ false → y .answer ≡ told.Refused n → v ≡ store) → cond b x y .answer ≡ told.Refused n → cond b u v ≡ store
+      stays = both-by (λ (x : ToldOutcome) (u : List ℕ). x .answer ≡ told.Refused n → u ≡ store)

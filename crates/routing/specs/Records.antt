@@ -5,6 +5,7 @@ use Prim.Native.Nat.{ℕ}
 use mathlib.Core.Bool.{cond}
 use mathlib.Core.List.{List, []}
 use lib.Dec.{ltb}
+use lib.ListN.{length}
 use Rattle.types.specs.declared.Nwk.{Nwk}
 use Rattle.types.specs.declared.Refusal.{Refusal}
 use Rattle.types.specs.declared.Refusal.the-variants.{StateIllFormed, StoreDisagrees, ListTooLong, UnknownNextHop}
@@ -14,6 +15,7 @@ use Rattle.standard.specs.declared.RelayList.{RelayList}
 use Rattle.standard.specs.Calls.{hopAt}
 use Rattle.route_table.specs.Table.{rowsOf}
 use Rattle.record_table.specs.declared.RecordTable.{RecordTable}
+use Rattle.record_table.specs.Table as records
 use Rattle.relay_store.specs.Store.{relaysOf, relayList, agrees}
 use Rattle.route_calls.specs.declared.HopAnswer.{HopAnswer}
 use Rattle.route_calls.specs.declared.HopAnswer.the-variants as hop
@@ -24,6 +26,8 @@ use Rattle.route_record.specs.declared.RecordRemoved.{RecordRemoved}
 use Rattle.route_record.specs.declared.RecordWay.{RecordWay}
 use Rattle.route_record.specs.Answer.{storedStep, storedStore, removedStep, removedStore, wayTo}
 use Rattle.routing.specs.declared.Routing.{Routing}
+use Rattle.routing.specs.declared.CountOutcome.{CountOutcome}
+use Rattle.routing.specs.declared.CountOutcome.the-variants as CountOutcome
 use Rattle.routing.specs.declared.RecordOutcome.{RecordOutcome}
 use Rattle.routing.specs.declared.RouteToAnswer.{RouteToAnswer}
 use Rattle.routing.specs.declared.RouteToAnswer.the-variants as way
@@ -124,3 +128,7 @@ routeTo s destination limit store =
 
 abbrev pub routeToDefault : Routing → Nwk → List ℕ → RouteToOutcome
 routeToDefault s destination store = routeTo s destination 12 store
+
+-- How many route records there are.
+unfoldable pub recordCount : Routing → CountOutcome
+recordCount s = cond (wellFormed s) (CountOutcome.Answered (length (records.rowsOf (s .«route_record_table»)))) (CountOutcome.Refused StateIllFormed)

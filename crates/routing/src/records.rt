@@ -1,4 +1,5 @@
 // The calls on route records, whose relays are in a lent store.
+use crate::CountOutcome;
 use crate::RecordOutcome;
 use crate::RouteToAnswer;
 use crate::RouteToOutcome;
@@ -16,7 +17,7 @@ ghost use mathlib.Core.Path.{_≡_};
 ghost use Prim.Native.Nat.{_≤_};
 ghost use Rattle.relay_store.specs.Store.{Agrees};
 ghost use Rattle.routing.specs.State.{WellFormed};
-ghost use Rattle.routing.specs.Records.{withRecords, refusedRecord, refusedRemoval, refusedWay, storeRouteRecordCore, storeRouteRecord, storeAfterRecordCore, storeAfterRecord, removeRouteRecordCore, removeRouteRecord, storeAfterRemovalCore, storeAfterRemoval, hopTo, answerBy, routeToCore, routeTo, routeToDefault};
+ghost use Rattle.routing.specs.Records.{withRecords, refusedRecord, refusedRemoval, refusedWay, storeRouteRecordCore, storeRouteRecord, storeAfterRecordCore, storeAfterRecord, removeRouteRecordCore, removeRouteRecord, storeAfterRemovalCore, storeAfterRemoval, hopTo, answerBy, routeToCore, routeTo, routeToDefault, recordCount};
 
 // The hop that the route table names, as the way: one that is not known is refusal 6.
 fn hop_to(hop: HopAnswer) -> RouteToAnswer
@@ -192,5 +193,16 @@ impl Routing {
         ensures { λ r. ⌜ r ≡ routeToDefault self destination (now (store .entry)) ⌝ }
     {
         self.route_to(store, destination, 12)
+    }
+
+    // How many route records there are.
+    pub fn record_count(self) -> CountOutcome
+        ensures { λ r. ⌜ r ≡ recordCount self ⌝ }
+    {
+        if !self.well_formed() {
+            return CountOutcome::Refused(Refusal::StateIllFormed);
+        }
+        let records = self.route_record_table;
+        CountOutcome::Answered(record_table::count_of(records))
     }
 }

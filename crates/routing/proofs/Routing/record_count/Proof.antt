@@ -1,0 +1,26 @@
+-- A state that is not well formed is refused; any other is asked.
+-- Assumes nothing.
+use mathlib.Core.Path.{sym, _∙_}
+use borrow.Author.Needs.{needs}
+use borrow.Author.Tests.{not-true, not-false}
+use Rattle.routing.specs.Records.{recordCount}
+use Rattle.routing.proofs.State.{state-told}
+use Rattle.routing.proofs.Routing.record_count.Statement.{statement}
+use Rattle.routing.proofs.Routing.record_count.Tie as tie
+
+well-formed-requires : tie.Need-well-formed-requires
+well-formed-requires c κs = search needs
+
+returns : tie.Need-returns
+unfolding recordCount
+returns c = rw (sym (c .before .well-formed .ensures) ∙ not-true _ (c .if1 .taken))
+
+count-of-requires : tie.Need-count-of-requires
+count-of-requires c κs = state-told _ .fact (sym (c .before .before .well-formed .ensures) ∙ not-false _ (c .before .if1 .left)) .records
+
+returns-2 : tie.Need-returns-2
+unfolding recordCount
+returns-2 c = rw (sym (c .before .before .before .well-formed .ensures) ∙ not-false _ (c .before .before .if1 .left), c .count-of .ensures)
+
+pub record-count-spec : {M : Type 1} → statement M
+record-count-spec = tie.close (tie.spec well-formed-requires returns count-of-requires returns-2)
