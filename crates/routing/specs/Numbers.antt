@@ -60,7 +60,7 @@ doneSaid route.Done = ok []
 
 abbrev pub toldSaid : ToldAnswer → Said
 toldSaid (told.Refused why) = refusedBy why
-toldSaid (told.Told yes) = ok (flag yes ∷ [])
+toldSaid (told.Told b) = ok (flag b ∷ [])
 
 -- 0 for none, else 1 and the value
 abbrev pub hopSaid : HopOutcome → Said
