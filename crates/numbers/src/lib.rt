@@ -5,7 +5,7 @@ use types::Refusal;
 ghost use mathlib.Core.Path.{_≡_};
 ghost use mathlib.Core.List.{[]};
 ghost use Prim.Native.Nat.{_%_};
-ghost use Rattle.numbers.specs.Said.{ok, bad, refusedBy, flagNumber, empty, pushed, spoken};
+ghost use Rattle.numbers.specs.Said.{ok, bad, refusedBy, flagNumber, empty, pushed, pushedAll, spoken};
 ghost use Rattle.numbers.specs.Read.{numberAt, byteAt, counterAt, flagAt, nwkAt, eui64At};
 
 // Up to 256 numbers; 0 from the count on.
@@ -44,6 +44,19 @@ pub fn push(n: Numbers, x: u64) -> Numbers
     n
 }
 
+// More numbers, in their order.
+pub fn push_each(n: Numbers, xs: &[u64]) -> Numbers
+    ensures { λ r. ⌜ r ≡ pushedAll n (now (xs .entry)) ⌝ }
+{
+    let mut m = n;
+    let mut i: usize = 0;
+    while i < xs.len() {
+        m = push(m, xs[i]);
+        i += 1;
+    }
+    m
+}
+
 // A bool as a number.
 pub fn flag_number(b: bool) -> u64
     ensures { λ r. ⌜ r ≡ flagNumber b ⌝ }
@@ -56,6 +69,14 @@ pub fn answered(numbers: Numbers) -> Answer
     ensures { λ r. ⌜ r ≡ record { kind = 0; numbers = numbers } ⌝ }
 {
     Answer { kind: 0, numbers }
+}
+
+// A call that is answered with these values.
+pub fn said(xs: &[u64]) -> Answer
+    ensures { λ r. ⌜ r ≡ spoken (ok (now (xs .entry))) ⌝ }
+{
+    let n = none();
+    answered(push_each(n, xs))
 }
 
 // A call that is done, and says nothing more.
