@@ -1,7 +1,7 @@
 // The two trigger counters of the routing state as a small record, by value and lent for change.
 // A function that is lent the record is proved by a walk of its code, by hand; the work is done by value, where the code is covered.
 ghost use mathlib.Core.Path.{_≡_};
-ghost use Rattle.triggers.specs.Triggers.{nextCount, firesAt, notedError, notedFailure, zeroed};
+ghost use Rattle.triggers.specs.Triggers.{nextCount, firesAt, noted, notedError, notedFailure, zeroed};
 
 // The signals counted toward an early many-to-one route request.
 pub struct Triggers {
@@ -63,4 +63,29 @@ pub fn spent() -> Triggers
         mtorr_route_errors: 0,
         mtorr_delivery_failures: 0,
     }
+}
+
+// A route failure was heard: whether the signals reach the threshold.
+pub fn note_route_error(t: &mut Triggers, threshold: u8) -> bool
+    ensures { λ r. ⌜ noted r (now (t .exit)) ≡ notedError (now (t .entry)) threshold ⌝ }
+{
+    let n = noted_error(*t, threshold);
+    *t = n.counters;
+    n.told
+}
+
+// A delivery of our own failed: whether the signals reach the threshold.
+pub fn note_delivery_failure(t: &mut Triggers, threshold: u8) -> bool
+    ensures { λ r. ⌜ noted r (now (t .exit)) ≡ notedFailure (now (t .entry)) threshold ⌝ }
+{
+    let n = noted_failure(*t, threshold);
+    *t = n.counters;
+    n.told
+}
+
+// A many-to-one request went out: the signals are spent.
+pub fn reset_mtorr_triggers(t: &mut Triggers)
+    ensures { λ _. ⌜ now (t .exit) ≡ zeroed ⌝ }
+{
+    *t = spent();
 }
