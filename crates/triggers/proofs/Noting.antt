@@ -87,10 +87,10 @@ function key = record {
 }
 
 -- the machine values of a record of counters, and of an answer with one
-abbrev mach : Triggers → Val
+abbrev pub mach : Triggers → Val
 mach = LL.val T.the-type T′.the-laws
 
-abbrev noted-mach : Noted → Val
+abbrev pub noted-mach : Noted → Val
 noted-mach = LL.val N.the-type N′.the-laws
 
 -- the counters of an answer are a record of counters
