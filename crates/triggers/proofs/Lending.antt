@@ -120,7 +120,6 @@ module _ (l : ℕ) where
           use1 W (later (some (λ (b : Bool). ((‵ (flft (α ∷ []) fullShare) ⊛ ‵ ftrue) ⊛ ‵ (bool .own b (v ∷ []))) ⊛ raw (ensured 𝓤 H A lent (notes 𝓤 S) (α ∷ [], tt) (ref-at δ h, (n, tt)) tt b)))) (id⊢ 𝓤 _) $ await ! tt $ pick ! (λ b. split ! $ move ! (1 ∷ []) $
           use1 W (some (λ (ws : Triggers × (Unit {0} × Unit {0})). ‵ (lasts lent (α ∷ [], tt) (ref-at δ h, (n, tt)) ws) ⊛ raw (fact 𝓤 (noted b (ws .0) ≡ S h n)))) (id⊢ 𝓤 _) $ pick ! (λ ws. split ! $ move ! (1 ∷ []) $
           heard ! (noted b (ws .0) ≡ S h n) (λ e. fsplit ! $ move ! (2 ∷ []) $ split ! $ move ! (1 ∷ []) $ peeks ! bool (Is bool) (shows 𝓤 H A bool) b (v ∷ []) (λ is. drop ! $ split ! $
-          -- [the token; true; the last value; true]
           at-once ! $ show ! (Told v) (noted b (ws .0)) $ check ! (e, ap only is) $ keep ! (0 ∷ 2 ∷ []) $ done !))))
 
     -- ---- a call of the reset

@@ -1,4 +1,4 @@
--- `triggers::counted` meets its contract: a walk of its code, by hand. The record is made in a local, and in each arm it is lent for the one call and comes back at what that call's contract says; the three arms meet again where the answer is put together.
+-- Walked by hand: a record is made in a local, each arm lends it to its one call and has it back at what that call's contract says, and the three arms go on as one to where the answer is put together.
 -- Assumes nothing.
 use mathlib.Core.Path.{_≡_, refl, sym, _∙_, subst}
 use Prim.Native.Nat.{ℕ, _<_, _^_}
@@ -156,11 +156,11 @@ module _ {M : Type 1} (𝓤 : URA M) (H : Heap 𝓤) (A : Atoms 𝓤) (W : Given
           assigns ! (addr ! (from ! (stop !))) (from ! (stop !)) (init ! 8 refl (tt, tt)) $ move ! (14 ∷ []) $
           use1 W (later (some (λ (α : ℕ). some (λ (δ : GName). ‵ (flft (α ∷ []) fullShare) ⊛ (‵ (Ref l₅ α δ h) ⊛ ‵ (Owed l₅ α δ)))))) (lends l₅ 𝓤 H A W h good) $ await ! tt $ pick ! (λ α. pick ! (λ δ. split ! $ move ! (1 ∷ []) $ split ! $
           move ! (2 ∷ 0 ∷ []) $ use2 W (raw (Noting 𝓤 notedError H A .pre (to-noting l₅ 𝓤 H A W notedError h n α δ))) (noting-goes l₅ 𝓤 H A W notedError h n α δ gn) $
-          -- [what the call asks; what the lender keeps; _12; …]
+          -- first in hand: what the call needs, then what is kept of the loan, then the locals
           calls-at-last ! fm (Noting 𝓤 notedError H A) known (to-noting l₅ 𝓤 H A W notedError h n α δ) (and-then ! (load ! (from ! (stop !)) (look ! 10 refl)) (and-then ! (load ! (from ! (stop !)) (look ! 17 refl)) (no-more !))) (λ v.
           use1 W (later (some (λ (r : Noted). given ((r ≡ notedError h n) × (v ≡ vbool (r .told))) (‵ (flft (α ∷ []) fullShare) ⊛ ‵ (Last l₅ δ (r .counters)))))) (noting-told l₅ 𝓤 H A W notedError h n α δ v) $ await ! tt $ pick ! (λ r. learn ! (λ g. split ! $
           move ! (0 ∷ 2 ∷ 1 ∷ []) $ use3 W (later (given (Good l₅ (r .counters)) (‵ (Cell l₅ (r .counters))))) (back l₅ 𝓤 H A W (r .counters) α δ) $ await ! tt $ learn ! (λ has.
-          -- [_5; _12; …]
+          -- first in hand: the record again, then the locals
           land-last ! (from ! (stop !)) (init ! 11 refl (subst (λ (y : Val). Holds (hasTy tyBool y) × WT y) (sym (g .1)) (tt, tt))) $ rewrite ! 11 (λ (y : Val). ‵ (fat fullShare tyBool l₇ 0 y)) (g .1) refl $ forget ! 9 refl $
           move ! (1 ∷ 2 ∷ 3 ∷ 4 ∷ 5 ∷ 6 ∷ 7 ∷ 8 ∷ 9 ∷ 10 ∷ 11 ∷ 12 ∷ 13 ∷ 14 ∷ 0 ∷ []) $ exec ! C Λ En rest (atRet En Post) $ meets-again r (g .0 ∙ named-0 s h n which) has))))))
 
@@ -169,11 +169,11 @@ module _ {M : Type 1} (𝓤 : URA M) (H : Heap 𝓤) (A : Atoms 𝓤) (W : Given
           assigns ! (addr ! (from ! (stop !))) (from ! (stop !)) (init ! 6 refl (tt, tt)) $ move ! (14 ∷ []) $
           use1 W (later (some (λ (α : ℕ). some (λ (δ : GName). ‵ (flft (α ∷ []) fullShare) ⊛ (‵ (Ref l₅ α δ h) ⊛ ‵ (Owed l₅ α δ)))))) (lends l₅ 𝓤 H A W h good) $ await ! tt $ pick ! (λ α. pick ! (λ δ. split ! $ move ! (1 ∷ []) $ split ! $
           move ! (2 ∷ 0 ∷ []) $ use2 W (raw (Noting 𝓤 notedFailure H A .pre (to-noting l₅ 𝓤 H A W notedFailure h n α δ))) (noting-goes l₅ 𝓤 H A W notedFailure h n α δ gn) $
-          -- [what the call asks; what the lender keeps; _12; …]
+          -- first in hand: what the call needs, then what is kept of the loan, then the locals
           calls-at-last ! fm (Noting 𝓤 notedFailure H A) known (to-noting l₅ 𝓤 H A W notedFailure h n α δ) (and-then ! (load ! (from ! (stop !)) (look ! 8 refl)) (and-then ! (load ! (from ! (stop !)) (look ! 17 refl)) (no-more !))) (λ v.
           use1 W (later (some (λ (r : Noted). given ((r ≡ notedFailure h n) × (v ≡ vbool (r .told))) (‵ (flft (α ∷ []) fullShare) ⊛ ‵ (Last l₅ δ (r .counters)))))) (noting-told l₅ 𝓤 H A W notedFailure h n α δ v) $ await ! tt $ pick ! (λ r. learn ! (λ g. split ! $
           move ! (0 ∷ 2 ∷ 1 ∷ []) $ use3 W (later (given (Good l₅ (r .counters)) (‵ (Cell l₅ (r .counters))))) (back l₅ 𝓤 H A W (r .counters) α δ) $ await ! tt $ learn ! (λ has.
-          -- [_5; _12; …]
+          -- first in hand: the record again, then the locals
           land-last ! (from ! (stop !)) (init ! 11 refl (subst (λ (y : Val). Holds (hasTy tyBool y) × WT y) (sym (g .1)) (tt, tt))) $ rewrite ! 11 (λ (y : Val). ‵ (fat fullShare tyBool l₇ 0 y)) (g .1) refl $ forget ! 7 refl $
           move ! (1 ∷ 2 ∷ 3 ∷ 4 ∷ 5 ∷ 6 ∷ 7 ∷ 8 ∷ 9 ∷ 10 ∷ 11 ∷ 12 ∷ 13 ∷ 14 ∷ 0 ∷ []) $ exec ! C Λ En rest (atRet En Post) $ meets-again r (g .0 ∙ named-1 s h n which) has))))))
 
