@@ -25,7 +25,6 @@ use Rattle.route_calls.specs.Answer.{hopAnswer}
 use Rattle.routing.specs.declared.Routing.{Routing}
 use Rattle.routing.specs.declared.RouteToAnswer.{RouteToAnswer}
 use Rattle.routing.specs.declared.RouteToAnswer.the-variants as way
-use Rattle.routing.specs.declared.RouteToOutcome.{RouteToOutcome}
 use Rattle.routing.specs.Records.{routeToCore}
 use Rattle.routing.specs.State as routing
 use Rattle.neighbors.specs.declared.Neighbors.{Neighbors}

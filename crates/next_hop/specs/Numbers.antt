@@ -1,8 +1,7 @@
 -- The number and the values of a decision: resolved 0 and the hop, discovery needed 1, discard 2, and after them the header.
 -- Document 01, "How each place should look": "If an answer is an enum, a definition gives this paper's number and values for each of its cases."
 -- Assumes nothing.
-use Prim.Native.Nat.{ℕ}
-use mathlib.Core.List.{List, [], _∷_, _++_}
+use mathlib.Core.List.{_∷_}
 use Rattle.routing.specs.Numbers.{Said, ok, refusedBy}
 use Rattle.frame.specs.declared.NwkHeader.{NwkHeader}
 use Rattle.frame.specs.Numbers.{headerNumbers}
