@@ -6,7 +6,7 @@ ghost use mathlib.Core.Path.{_≡_};
 ghost use Rattle.neighbor_event_lines.specs.Lines.{changed, recordLqaCall, updateNetworkAddressCall, removeCall, recordOutboundActivityCall, recordInboundActivityCall, recordTransmitFailureCall, resetTransmitFailuresCall};
 
 // A call that changes the neighbours and answers nothing more.
-fn changed(world: World, outcome: Outcome) -> Reply
+pub fn changed(world: World, outcome: Outcome) -> Reply
     ensures { λ r. ⌜ r ≡ changed world outcome ⌝ }
 {
     let state = outcome.state;
