@@ -1,0 +1,4 @@
+pub mod Way
+pub mod HeaderFrame
+pub mod Asked
+pub mod Worked
