@@ -1,0 +1,17 @@
+-- Each answer is that of the tests that led to it.
+-- Assumes nothing.
+use Prim.Native.Nat.{_-_}
+use Rattle.script.proofs.line_of.Statement.{statement}
+use Rattle.script.proofs.line_of.Tie as tie
+
+returns : tie.Need-returns
+returns c = rw (c .if1 .taken)
+
+returns-2 : tie.Need-returns-2
+returns-2 c = rw (c .before .if1 .left, c .if2 .taken)
+
+returns-3 : tie.Need-returns-3
+returns-3 c = rw (c .before .if1 .left, c .if2 .left)
+
+pub line-of-spec : {M : Type 1} → statement M
+line-of-spec = tie.close (tie.spec returns returns-2 returns-3)
