@@ -15,7 +15,7 @@ use Rattle.route_answers.specs.Answers.{doneSaid, toldSaid, beginSaid, requestS
 use Rattle.world.specs.declared.World.{World}
 use Rattle.world.specs.declared.Reply.{Reply}
 use Rattle.world.specs.Worlds.{routed}
-use Rattle.route_lines.specs.Read.{manyToOneOf}
+use Rattle.route_args.specs.Read.{manyToOneOf}
 
 abbrev pub doneReply : World → DoneOutcome → Reply
 doneReply w o = routed w (o .state) (doneSaid (o .answer))

@@ -4,28 +4,10 @@ use routing::DoneOutcome;
 use routing::RouteReplyOutcome;
 use routing::RouteRequestOutcome;
 use routing::ToldOutcome;
-use standard::ManyToOne;
 use world::Reply;
 use world::World;
 ghost use mathlib.Core.Path.{_≡_};
-ghost use Rattle.route_lines.specs.Read.{manyToOneOf};
 ghost use Rattle.route_lines.specs.Changed.{doneReply, toldReply, beginReply, requestReply, replyReply, noteRouteErrorCall, noteDeliveryFailureCall, resetMtorrTriggersCall, markDiscoveryFailedCall, recordUsageCall, decayActivityCall, invalidateViaCall, removeRouteCall, restoreRouteCall, noteSourceRoutedFrameCall, noteRelayedDiscoveryCall, beginDiscoveryCall, beginManyToOneAdvertisementCall, acceptRouteRequestCall, acceptRouteReplyCall};
-
-// The many-to-one field by its number; a number past the last is Reserved.
-fn many_to_one(n: u64) -> ManyToOne
-    ensures { λ r. ⌜ r ≡ manyToOneOf n ⌝ }
-{
-    if n == 0 {
-        return ManyToOne::NotManyToOne;
-    }
-    if n == 1 {
-        return ManyToOne::SenderSupportsRouteRecordTable;
-    }
-    if n == 2 {
-        return ManyToOne::SenderDoesntSupportRouteRecordTable;
-    }
-    ManyToOne::Reserved
-}
 
 // Done or refused, and the state after it.
 fn done_reply(world: World, o: DoneOutcome) -> Reply
@@ -222,7 +204,7 @@ pub fn accept_route_request(world: World, args: &[u64]) -> Reply
     let x2 = numbers::nwk(args, 2);
     let x3 = numbers::nwk(args, 3);
     let x4 = numbers::byte(args, 4);
-    let x5 = many_to_one(numbers::at(args, 5));
+    let x5 = route_args::many_to_one(numbers::at(args, 5));
     let x6 = numbers::at(args, 6);
     let x7 = numbers::at(args, 7);
     let o = routing.accept_route_request(x0, x1, x2, x3, x4, x5, x6, x7);

@@ -1,8 +1,8 @@
 -- The number is compared with each in turn.
 use borrow.Author.Tests.{eq-eqb, ne-eqb}
-use Rattle.route_lines.specs.Read.{manyToOneOf}
-use Rattle.route_lines.proofs.many_to_one.Statement.{statement}
-use Rattle.route_lines.proofs.many_to_one.Tie as tie
+use Rattle.route_args.specs.Read.{manyToOneOf}
+use Rattle.route_args.proofs.many_to_one.Statement.{statement}
+use Rattle.route_args.proofs.many_to_one.Tie as tie
 
 returns : tie.Need-returns
 unfolding manyToOneOf
