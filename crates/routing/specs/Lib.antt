@@ -2,5 +2,4 @@ pub mod State
 pub mod Search
 pub mod Routes
 pub mod Queries
-pub mod Numbers
 pub mod Records

@@ -50,32 +50,53 @@ withTriggers s errors failures = record {
 }
 
 -- How the route to a destination stands.
+abbrev pub routeStatusCore : Routing → Nwk → StatusOutcome
+routeStatusCore s destination = StatusOutcome.Answered (statusAnswer (statusAt (destination .0) (rowsOf (s .«route_table»))))
+
 unfoldable pub routeStatus : Routing → Nwk → StatusOutcome
-routeStatus s destination = cond (wellFormed s) (StatusOutcome.Answered (statusAnswer (statusAt (destination .0) (rowsOf (s .«route_table»))))) (StatusOutcome.Refused StateIllFormed)
+routeStatus s destination = cond (wellFormed s) (routeStatusCore s destination) (StatusOutcome.Refused StateIllFormed)
 
 -- When the first live discovery of the way to a destination is over.
+abbrev pub discoveryDeadlineCore : Routing → Nwk → ℕ → DeadlineOutcome
+discoveryDeadlineCore s destination now = DeadlineOutcome.Answered (deadlineOf (first (awaits (destination .0) now) (discoveries.rowsOf (s .«discovery_table»))))
+
 unfoldable pub discoveryDeadline : Routing → Nwk → ℕ → DeadlineOutcome
-discoveryDeadline s destination now = cond (wellFormed s) (DeadlineOutcome.Answered (deadlineOf (first (awaits (destination .0) now) (discoveries.rowsOf (s .«discovery_table»))))) (DeadlineOutcome.Refused StateIllFormed)
+discoveryDeadline s destination now = cond (wellFormed s) (discoveryDeadlineCore s destination now) (DeadlineOutcome.Refused StateIllFormed)
 
 -- How many routes there are.
+abbrev pub routeCountCore : Routing → CountOutcome
+routeCountCore s = CountOutcome.Answered (length (rowsOf (s .«route_table»)))
+
 unfoldable pub routeCount : Routing → CountOutcome
-routeCount s = cond (wellFormed s) (CountOutcome.Answered (length (rowsOf (s .«route_table»)))) (CountOutcome.Refused StateIllFormed)
+routeCount s = cond (wellFormed s) (routeCountCore s) (CountOutcome.Refused StateIllFormed)
 
 -- How many discoveries there are.
+abbrev pub discoveryCountCore : Routing → CountOutcome
+discoveryCountCore s = CountOutcome.Answered (length (discoveries.rowsOf (s .«discovery_table»)))
+
 unfoldable pub discoveryCount : Routing → CountOutcome
-discoveryCount s = cond (wellFormed s) (CountOutcome.Answered (length (discoveries.rowsOf (s .«discovery_table»)))) (CountOutcome.Refused StateIllFormed)
+discoveryCount s = cond (wellFormed s) (discoveryCountCore s) (CountOutcome.Refused StateIllFormed)
 
 -- The route at a place in ascending order, and nothing from the count on.
+abbrev pub routeAtCore : Routing → ℕ → RouteAtOutcome
+routeAtCore s place = RouteAtOutcome.Answered (looked (entryAt place (rowsOf (s .«route_table»))))
+
 unfoldable pub routeAt : Routing → ℕ → RouteAtOutcome
-routeAt s place = cond (wellFormed s) (RouteAtOutcome.Answered (looked (entryAt place (rowsOf (s .«route_table»))))) (RouteAtOutcome.Refused StateIllFormed)
+routeAt s place = cond (wellFormed s) (routeAtCore s place) (RouteAtOutcome.Refused StateIllFormed)
 
 -- The discovery at a place in ascending order, and nothing from the count on.
+abbrev pub discoveryAtCore : Routing → ℕ → DiscoveryAtOutcome
+discoveryAtCore s place = DiscoveryAtOutcome.Answered (discoveries.looked (entryAt place (discoveries.rowsOf (s .«discovery_table»))))
+
 unfoldable pub discoveryAt : Routing → ℕ → DiscoveryAtOutcome
-discoveryAt s place = cond (wellFormed s) (DiscoveryAtOutcome.Answered (discoveries.looked (entryAt place (discoveries.rowsOf (s .«discovery_table»))))) (DiscoveryAtOutcome.Refused StateIllFormed)
+discoveryAt s place = cond (wellFormed s) (discoveryAtCore s place) (DiscoveryAtOutcome.Refused StateIllFormed)
 
 -- The table check: sound, or the first fault in ascending order of destination.
+abbrev pub checkTablesCore : Routing → CheckOutcome
+checkTablesCore s = CheckOutcome.Answered (checkedBy (firstFault (discoveries.rowsOf (s .«discovery_table»)) (rowsOf (s .«route_table»))))
+
 unfoldable pub checkTables : Routing → CheckOutcome
-checkTables s = cond (wellFormed s) (CheckOutcome.Answered (checkedBy (firstFault (discoveries.rowsOf (s .«discovery_table»)) (rowsOf (s .«route_table»))))) (CheckOutcome.Refused StateIllFormed)
+checkTables s = cond (wellFormed s) (checkTablesCore s) (CheckOutcome.Refused StateIllFormed)
 
 -- "the hop to be returned, by the next hop look-up .., is 0xFFFF from an Active route": 6
 abbrev pub hopOutcome : HopAnswer → HopOutcome
@@ -84,8 +105,11 @@ hopOutcome (hop.Hop n) = hop-outcome.Hop n
 hopOutcome hop.Unknown = hop-outcome.Refused UnknownNextHop
 
 -- The next hop to a destination by its Active route.
+abbrev pub nextHopCore : Routing → Nwk → HopOutcome
+nextHopCore s destination = hopOutcome (hopAnswer (hopAt (destination .0) (rowsOf (s .«route_table»))))
+
 unfoldable pub nextHop : Routing → Nwk → HopOutcome
-nextHop s destination = cond (wellFormed s) (hopOutcome (hopAnswer (hopAt (destination .0) (rowsOf (s .«route_table»))))) (hop-outcome.Refused StateIllFormed)
+nextHop s destination = cond (wellFormed s) (nextHopCore s destination) (hop-outcome.Refused StateIllFormed)
 
 -- A route failure was heard: whether the signals reach the threshold. "the two trigger counters at 255. A trigger fires at or above its threshold."
 abbrev pub noteRouteErrorCore : Routing → ℕ → ToldOutcome

@@ -15,6 +15,8 @@ use Rattle.standard.specs.declared.RelayList.{RelayList}
 use Rattle.standard.specs.Calls.{hopAt}
 use Rattle.route_table.specs.Table.{rowsOf}
 use Rattle.record_table.specs.declared.RecordTable.{RecordTable}
+use Rattle.record_table.specs.declared.RecordLookup.{RecordLookup}
+use Rattle.record_table.specs.declared.RecordLookup.the-variants as record-lookup
 use Rattle.record_table.specs.Table as records
 use Rattle.relay_store.specs.Store.{relaysOf, relayList, agrees}
 use Rattle.route_calls.specs.declared.HopAnswer.{HopAnswer}
@@ -24,10 +26,14 @@ use Rattle.route_record.specs.declared.RecordAnswer.the-variants as record-answ
 use Rattle.route_record.specs.declared.RecordStep.{RecordStep}
 use Rattle.route_record.specs.declared.RecordRemoved.{RecordRemoved}
 use Rattle.route_record.specs.declared.RecordWay.{RecordWay}
-use Rattle.route_record.specs.Answer.{storedStep, storedStore, removedStep, removedStore, wayTo}
+use Rattle.route_record.specs.declared.RecordRow.{RecordRow}
+use Rattle.route_record.specs.Answer.{storedStep, storedStore, removedStep, removedStore, wayTo, recordHeld}
 use Rattle.routing.specs.declared.Routing.{Routing}
 use Rattle.routing.specs.declared.CountOutcome.{CountOutcome}
 use Rattle.routing.specs.declared.CountOutcome.the-variants as CountOutcome
+use Rattle.routing.specs.declared.RecordAtAnswer.{RecordAtAnswer}
+use Rattle.routing.specs.declared.RecordAtAnswer.the-variants as record-at
+use Rattle.routing.specs.declared.RecordAtOutcome.{RecordAtOutcome}
 use Rattle.routing.specs.declared.RecordOutcome.{RecordOutcome}
 use Rattle.routing.specs.declared.RouteToAnswer.{RouteToAnswer}
 use Rattle.routing.specs.declared.RouteToAnswer.the-variants as way
@@ -130,5 +136,28 @@ abbrev pub routeToDefault : Routing → Nwk → List ℕ → RouteToOutcome
 routeToDefault s destination store = routeTo s destination 12 store
 
 -- How many route records there are.
+abbrev pub recordCountCore : Routing → CountOutcome
+recordCountCore s = CountOutcome.Answered (length (records.rowsOf (s .«route_record_table»)))
+
 unfoldable pub recordCount : Routing → CountOutcome
-recordCount s = cond (wellFormed s) (CountOutcome.Answered (length (records.rowsOf (s .«route_record_table»)))) (CountOutcome.Refused StateIllFormed)
+recordCount s = cond (wellFormed s) (recordCountCore s) (CountOutcome.Refused StateIllFormed)
+
+-- The route record at a place in ascending order with its relays, and nothing from the count on.
+abbrev pub recordHere : RecordLookup → RecordAtAnswer
+recordHere record-lookup.Missing = record-at.Missing
+recordHere (record-lookup.Found e) = record-at.Found e
+
+abbrev pub refusedRecordAt : Refusal → RecordAtOutcome
+refusedRecordAt n = record { answer = record-at.Refused n; relays = relayList [] }
+
+abbrev pub rowIn : RecordRow → RecordAtOutcome
+rowIn x = record { answer = recordHere (x .entry); relays = x .relays }
+
+abbrev pub recordAtCore : Routing → ℕ → List ℕ → RecordAtOutcome
+recordAtCore s place store = rowIn (recordHeld place (s .«route_record_table») store)
+
+unfoldable pub recordAt : Routing → ℕ → List ℕ → RecordAtOutcome
+recordAt s place store =
+    cond (wellFormed s)
+    (cond (agrees (s .«route_record_table») store) (recordAtCore s place store) (refusedRecordAt StoreDisagrees))
+    (refusedRecordAt StateIllFormed)

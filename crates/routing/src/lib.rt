@@ -19,6 +19,7 @@ use route_table::RouteLookup;
 use route_table::RouteTable;
 use search_tables::SearchTables;
 use standard::ManyToOne;
+use standard::RecordEntry;
 use standard::RelayList;
 use types::Nwk;
 use types::Refusal;
@@ -124,6 +125,19 @@ pub struct BeginOutcome {
 pub struct RecordOutcome {
     pub answer: RecordAnswer,
     pub state: Routing,
+}
+
+// The route record at a place, asked.
+pub enum RecordAtAnswer {
+    Refused(Refusal),
+    Missing,
+    Found(RecordEntry),
+}
+
+// The relays of a record that is found are beside the answer; they are blank beside any other.
+pub struct RecordAtOutcome {
+    pub answer: RecordAtAnswer,
+    pub relays: RelayList,
 }
 
 // The way to a destination, asked.

@@ -15,9 +15,18 @@ use route_calls::RouteAnswer;
 use types::Nwk;
 use types::Refusal;
 ghost use mathlib.Core.Path.{_≡_};
-ghost use Rattle.routing.specs.Queries.{routeStatus, discoveryDeadline, routeCount, discoveryCount, routeAt, discoveryAt, checkTables, nextHop, noteRouteErrorCore, noteRouteError, noteDeliveryFailureCore, noteDeliveryFailure, resetMtorrTriggersCore, resetMtorrTriggers};
+ghost use Rattle.routing.specs.State.{WellFormed};
+ghost use Rattle.routing.specs.Queries.{routeStatusCore, routeStatus, discoveryDeadlineCore, discoveryDeadline, routeCountCore, routeCount, discoveryCountCore, discoveryCount, routeAtCore, routeAt, discoveryAtCore, discoveryAt, checkTablesCore, checkTables, nextHopCore, nextHop, noteRouteErrorCore, noteRouteError, noteDeliveryFailureCore, noteDeliveryFailure, resetMtorrTriggersCore, resetMtorrTriggers};
 
 impl Routing {
+    pub fn route_status_core(self, destination: Nwk) -> StatusOutcome
+        requires { ⌜ WellFormed self ⌝ }
+        ensures { λ r. ⌜ r ≡ routeStatusCore self destination ⌝ }
+    {
+        let routes = self.route_table;
+        StatusOutcome::Answered(route_calls::route_status(routes, destination))
+    }
+
     // How the route to a destination stands.
     pub fn route_status(self, destination: Nwk) -> StatusOutcome
         ensures { λ r. ⌜ r ≡ routeStatus self destination ⌝ }
@@ -25,8 +34,19 @@ impl Routing {
         if !self.well_formed() {
             return StatusOutcome::Refused(Refusal::StateIllFormed);
         }
-        let routes = self.route_table;
-        StatusOutcome::Answered(route_calls::route_status(routes, destination))
+        self.route_status_core(destination)
+    }
+
+    pub fn discovery_deadline_core(self, destination: Nwk, now: u64) -> DeadlineOutcome
+        requires { ⌜ WellFormed self ⌝ }
+        ensures { λ r. ⌜ r ≡ discoveryDeadlineCore self destination now ⌝ }
+    {
+        let discoveries = self.discovery_table;
+        DeadlineOutcome::Answered(discovery_table::discovery_deadline(
+            discoveries,
+            destination,
+            now,
+        ))
     }
 
     // When the first live discovery of the way to a destination is over.
@@ -36,12 +56,15 @@ impl Routing {
         if !self.well_formed() {
             return DeadlineOutcome::Refused(Refusal::StateIllFormed);
         }
-        let discoveries = self.discovery_table;
-        DeadlineOutcome::Answered(discovery_table::discovery_deadline(
-            discoveries,
-            destination,
-            now,
-        ))
+        self.discovery_deadline_core(destination, now)
+    }
+
+    pub fn route_count_core(self) -> CountOutcome
+        requires { ⌜ WellFormed self ⌝ }
+        ensures { λ r. ⌜ r ≡ routeCountCore self ⌝ }
+    {
+        let routes = self.route_table;
+        CountOutcome::Answered(route_table::count_of(routes))
     }
 
     // How many routes there are.
@@ -51,8 +74,15 @@ impl Routing {
         if !self.well_formed() {
             return CountOutcome::Refused(Refusal::StateIllFormed);
         }
-        let routes = self.route_table;
-        CountOutcome::Answered(route_table::count_of(routes))
+        self.route_count_core()
+    }
+
+    pub fn discovery_count_core(self) -> CountOutcome
+        requires { ⌜ WellFormed self ⌝ }
+        ensures { λ r. ⌜ r ≡ discoveryCountCore self ⌝ }
+    {
+        let discoveries = self.discovery_table;
+        CountOutcome::Answered(discovery_table::count_of(discoveries))
     }
 
     // How many discoveries there are.
@@ -62,8 +92,15 @@ impl Routing {
         if !self.well_formed() {
             return CountOutcome::Refused(Refusal::StateIllFormed);
         }
-        let discoveries = self.discovery_table;
-        CountOutcome::Answered(discovery_table::count_of(discoveries))
+        self.discovery_count_core()
+    }
+
+    pub fn route_at_core(self, place: usize) -> RouteAtOutcome
+        requires { ⌜ WellFormed self ⌝ }
+        ensures { λ r. ⌜ r ≡ routeAtCore self place ⌝ }
+    {
+        let routes = self.route_table;
+        RouteAtOutcome::Answered(route_table::entry_at(routes, place))
     }
 
     // The route at a place in ascending order, and nothing from the count on.
@@ -73,8 +110,15 @@ impl Routing {
         if !self.well_formed() {
             return RouteAtOutcome::Refused(Refusal::StateIllFormed);
         }
-        let routes = self.route_table;
-        RouteAtOutcome::Answered(route_table::entry_at(routes, place))
+        self.route_at_core(place)
+    }
+
+    pub fn discovery_at_core(self, place: usize) -> DiscoveryAtOutcome
+        requires { ⌜ WellFormed self ⌝ }
+        ensures { λ r. ⌜ r ≡ discoveryAtCore self place ⌝ }
+    {
+        let discoveries = self.discovery_table;
+        DiscoveryAtOutcome::Answered(discovery_table::entry_at(discoveries, place))
     }
 
     // The discovery at a place in ascending order, and nothing from the count on.
@@ -84,8 +128,16 @@ impl Routing {
         if !self.well_formed() {
             return DiscoveryAtOutcome::Refused(Refusal::StateIllFormed);
         }
+        self.discovery_at_core(place)
+    }
+
+    pub fn check_core(self) -> CheckOutcome
+        requires { ⌜ WellFormed self ⌝ }
+        ensures { λ r. ⌜ r ≡ checkTablesCore self ⌝ }
+    {
+        let routes = self.route_table;
         let discoveries = self.discovery_table;
-        DiscoveryAtOutcome::Answered(discovery_table::entry_at(discoveries, place))
+        CheckOutcome::Answered(route_calls::check(routes, discoveries))
     }
 
     // The table check: sound, or the first fault in ascending order of destination.
@@ -95,9 +147,20 @@ impl Routing {
         if !self.well_formed() {
             return CheckOutcome::Refused(Refusal::StateIllFormed);
         }
+        self.check_core()
+    }
+
+    pub fn next_hop_core(self, destination: Nwk) -> HopOutcome
+        requires { ⌜ WellFormed self ⌝ }
+        ensures { λ r. ⌜ r ≡ nextHopCore self destination ⌝ }
+    {
         let routes = self.route_table;
-        let discoveries = self.discovery_table;
-        CheckOutcome::Answered(route_calls::check(routes, discoveries))
+        let hop = route_calls::next_hop(routes, destination);
+        match hop {
+            HopAnswer::NoRoute => HopOutcome::NoRoute,
+            HopAnswer::Hop(n) => HopOutcome::Hop(n),
+            HopAnswer::Unknown => HopOutcome::Refused(Refusal::UnknownNextHop),
+        }
     }
 
     // The next hop to a destination by its Active route. A hop that is not known is refusal 6.
@@ -107,13 +170,7 @@ impl Routing {
         if !self.well_formed() {
             return HopOutcome::Refused(Refusal::StateIllFormed);
         }
-        let routes = self.route_table;
-        let hop = route_calls::next_hop(routes, destination);
-        match hop {
-            HopAnswer::NoRoute => HopOutcome::NoRoute,
-            HopAnswer::Hop(n) => HopOutcome::Hop(n),
-            HopAnswer::Unknown => HopOutcome::Refused(Refusal::UnknownNextHop),
-        }
+        self.next_hop_core(destination)
     }
 
     pub fn note_route_error_core(self, threshold: u8) -> ToldOutcome

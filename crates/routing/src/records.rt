@@ -1,11 +1,14 @@
 // The calls on route records, whose relays are in a lent store.
 use crate::CountOutcome;
+use crate::RecordAtAnswer;
+use crate::RecordAtOutcome;
 use crate::RecordOutcome;
 use crate::RouteToAnswer;
 use crate::RouteToOutcome;
 use crate::Routing;
 use crate::ToldAnswer;
 use crate::ToldOutcome;
+use record_table::RecordLookup;
 use record_table::RecordTable;
 use route_calls::HopAnswer;
 use route_record::RecordAnswer;
@@ -17,7 +20,7 @@ ghost use mathlib.Core.Path.{_≡_};
 ghost use Prim.Native.Nat.{_≤_};
 ghost use Rattle.relay_store.specs.Store.{Agrees};
 ghost use Rattle.routing.specs.State.{WellFormed};
-ghost use Rattle.routing.specs.Records.{withRecords, refusedRecord, refusedRemoval, refusedWay, storeRouteRecordCore, storeRouteRecord, storeAfterRecordCore, storeAfterRecord, removeRouteRecordCore, removeRouteRecord, storeAfterRemovalCore, storeAfterRemoval, hopTo, answerBy, routeToCore, routeTo, routeToDefault, recordCount};
+ghost use Rattle.routing.specs.Records.{withRecords, refusedRecord, refusedRemoval, refusedWay, storeRouteRecordCore, storeRouteRecord, storeAfterRecordCore, storeAfterRecord, removeRouteRecordCore, removeRouteRecord, storeAfterRemovalCore, storeAfterRemoval, hopTo, answerBy, routeToCore, routeTo, routeToDefault, recordCountCore, recordCount, recordHere, refusedRecordAt, recordAtCore, recordAt};
 
 // The hop that the route table names, as the way: one that is not known is refusal 6.
 fn hop_to(hop: HopAnswer) -> RouteToAnswer
@@ -37,6 +40,27 @@ fn refuse_way(refusal: Refusal) -> RouteToOutcome
     let relays = relay_store::no_relays();
     RouteToOutcome {
         answer: RouteToAnswer::Refused(refusal),
+        relays,
+    }
+}
+
+// What stands at a place, as an answer.
+fn record_here(entry: RecordLookup) -> RecordAtAnswer
+    ensures { λ r. ⌜ r ≡ recordHere entry ⌝ }
+{
+    match entry {
+        RecordLookup::Found(e) => RecordAtAnswer::Found(e),
+        RecordLookup::Missing => RecordAtAnswer::Missing,
+    }
+}
+
+// No record, for a refusal.
+fn refuse_record_at(refusal: Refusal) -> RecordAtOutcome
+    ensures { λ r. ⌜ r ≡ refusedRecordAt refusal ⌝ }
+{
+    let relays = relay_store::no_relays();
+    RecordAtOutcome {
+        answer: RecordAtAnswer::Refused(refusal),
         relays,
     }
 }
@@ -195,6 +219,14 @@ impl Routing {
         self.route_to(store, destination, 12)
     }
 
+    pub fn record_count_core(self) -> CountOutcome
+        requires { ⌜ WellFormed self ⌝ }
+        ensures { λ r. ⌜ r ≡ recordCountCore self ⌝ }
+    {
+        let records = self.route_record_table;
+        CountOutcome::Answered(record_table::count_of(records))
+    }
+
     // How many route records there are.
     pub fn record_count(self) -> CountOutcome
         ensures { λ r. ⌜ r ≡ recordCount self ⌝ }
@@ -202,7 +234,32 @@ impl Routing {
         if !self.well_formed() {
             return CountOutcome::Refused(Refusal::StateIllFormed);
         }
-        let records = self.route_record_table;
-        CountOutcome::Answered(record_table::count_of(records))
+        self.record_count_core()
+    }
+
+    pub fn record_at_core(self, store: &[u16], place: usize) -> RecordAtOutcome
+        requires { ⌜ WellFormed self × Agrees (self .«route_record_table») (now store) ⌝ }
+        ensures { λ r. ⌜ r ≡ recordAtCore self place (now (store .entry)) ⌝ }
+    {
+        let t = self.route_record_table;
+        let row = route_record::record_at(t, store, place);
+        let entry = row.entry;
+        let relays = row.relays;
+        let answer = record_here(entry);
+        RecordAtOutcome { answer, relays }
+    }
+
+    // The route record at a place in ascending order with its relays, and nothing from the count on.
+    pub fn record_at(self, store: &[u16], place: usize) -> RecordAtOutcome
+        ensures { λ r. ⌜ r ≡ recordAt self place (now (store .entry)) ⌝ }
+    {
+        if !self.well_formed() {
+            return refuse_record_at(Refusal::StateIllFormed);
+        }
+        let t = self.route_record_table;
+        if !relay_store::agrees(t, store) {
+            return refuse_record_at(Refusal::StoreDisagrees);
+        }
+        self.record_at_core(store, place)
     }
 }

@@ -1,4 +1,4 @@
--- A state that is not well formed is refused; any other is asked.
+-- A state that is not well formed is refused; any other goes to the core form.
 -- Assumes nothing.
 use mathlib.Core.Path.{sym, _∙_}
 use borrow.Author.Needs.{needs}
@@ -15,12 +15,12 @@ returns : tie.Need-returns
 unfolding checkTables
 returns c = rw (sym (c .before .well-formed .ensures) ∙ not-true _ (c .if1 .taken))
 
-check-requires : tie.Need-check-requires
-check-requires c κs = let w = state-told _ .fact (sym (c .before .before .before .well-formed .ensures) ∙ not-false _ (c .before .before .if1 .left)) in (w .routes, w .discoveries)
+check-core-requires : tie.Need-check-core-requires
+check-core-requires c κs = state-told _ .fact (sym (c .before .well-formed .ensures) ∙ not-false _ (c .if1 .left))
 
 returns-2 : tie.Need-returns-2
 unfolding checkTables
-returns-2 c = rw (sym (c .before .before .before .before .well-formed .ensures) ∙ not-false _ (c .before .before .before .if1 .left), c .check .ensures)
+returns-2 c = rw (sym (c .before .before .well-formed .ensures) ∙ not-false _ (c .before .if1 .left)) (c .check-core .ensures)
 
 pub check-spec : {M : Type 1} → statement M
-check-spec = tie.close (tie.spec well-formed-requires returns check-requires returns-2)
+check-spec = tie.close (tie.spec well-formed-requires returns check-core-requires returns-2)

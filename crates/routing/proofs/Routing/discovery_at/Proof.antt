@@ -1,4 +1,4 @@
--- A state that is not well formed is refused; any other is asked.
+-- A state that is not well formed is refused; any other goes to the core form.
 -- Assumes nothing.
 use mathlib.Core.Path.{sym, _∙_}
 use borrow.Author.Needs.{needs}
@@ -15,12 +15,12 @@ returns : tie.Need-returns
 unfolding discoveryAt
 returns c = rw (sym (c .before .well-formed .ensures) ∙ not-true _ (c .if1 .taken))
 
-entry-at-requires : tie.Need-entry-at-requires
-entry-at-requires c κs = state-told _ .fact (sym (c .before .before .well-formed .ensures) ∙ not-false _ (c .before .if1 .left)) .discoveries
+discovery-at-core-requires : tie.Need-discovery-at-core-requires
+discovery-at-core-requires c κs = state-told _ .fact (sym (c .before .well-formed .ensures) ∙ not-false _ (c .if1 .left))
 
 returns-2 : tie.Need-returns-2
 unfolding discoveryAt
-returns-2 c = rw (sym (c .before .before .before .well-formed .ensures) ∙ not-false _ (c .before .before .if1 .left), c .entry-at .ensures)
+returns-2 c = rw (sym (c .before .before .well-formed .ensures) ∙ not-false _ (c .before .if1 .left)) (c .discovery-at-core .ensures)
 
 pub discovery-at-spec : {M : Type 1} → statement M
-discovery-at-spec = tie.close (tie.spec well-formed-requires returns entry-at-requires returns-2)
+discovery-at-spec = tie.close (tie.spec well-formed-requires returns discovery-at-core-requires returns-2)

@@ -1,4 +1,4 @@
--- A state that is not well formed is refused; any other is asked.
+-- A state that is not well formed is refused; any other goes to the core form.
 -- Assumes nothing.
 use mathlib.Core.Path.{sym, _∙_}
 use borrow.Author.Needs.{needs}
@@ -15,12 +15,12 @@ returns : tie.Need-returns
 unfolding discoveryDeadline
 returns c = rw (sym (c .before .well-formed .ensures) ∙ not-true _ (c .if1 .taken))
 
-discovery-deadline-requires : tie.Need-discovery-deadline-requires
-discovery-deadline-requires c κs = state-told _ .fact (sym (c .before .before .well-formed .ensures) ∙ not-false _ (c .before .if1 .left)) .discoveries
+discovery-deadline-core-requires : tie.Need-discovery-deadline-core-requires
+discovery-deadline-core-requires c κs = state-told _ .fact (sym (c .before .well-formed .ensures) ∙ not-false _ (c .if1 .left))
 
 returns-2 : tie.Need-returns-2
 unfolding discoveryDeadline
-returns-2 c = rw (sym (c .before .before .before .well-formed .ensures) ∙ not-false _ (c .before .before .if1 .left), c .discovery-deadline .ensures)
+returns-2 c = rw (sym (c .before .before .well-formed .ensures) ∙ not-false _ (c .before .if1 .left)) (c .discovery-deadline-core .ensures)
 
 pub discovery-deadline-spec : {M : Type 1} → statement M
-discovery-deadline-spec = tie.close (tie.spec well-formed-requires returns discovery-deadline-requires returns-2)
+discovery-deadline-spec = tie.close (tie.spec well-formed-requires returns discovery-deadline-core-requires returns-2)

@@ -1,4 +1,4 @@
--- A state that is not well formed is refused; any other is asked.
+-- A state that is not well formed is refused; any other goes to the core form.
 -- Assumes nothing.
 use mathlib.Core.Path.{sym, _∙_}
 use borrow.Author.Needs.{needs}
@@ -15,12 +15,12 @@ returns : tie.Need-returns
 unfolding routeAt
 returns c = rw (sym (c .before .well-formed .ensures) ∙ not-true _ (c .if1 .taken))
 
-entry-at-requires : tie.Need-entry-at-requires
-entry-at-requires c κs = state-told _ .fact (sym (c .before .before .well-formed .ensures) ∙ not-false _ (c .before .if1 .left)) .routes
+route-at-core-requires : tie.Need-route-at-core-requires
+route-at-core-requires c κs = state-told _ .fact (sym (c .before .well-formed .ensures) ∙ not-false _ (c .if1 .left))
 
 returns-2 : tie.Need-returns-2
 unfolding routeAt
-returns-2 c = rw (sym (c .before .before .before .well-formed .ensures) ∙ not-false _ (c .before .before .if1 .left), c .entry-at .ensures)
+returns-2 c = rw (sym (c .before .before .well-formed .ensures) ∙ not-false _ (c .before .if1 .left)) (c .route-at-core .ensures)
 
 pub route-at-spec : {M : Type 1} → statement M
-route-at-spec = tie.close (tie.spec well-formed-requires returns entry-at-requires returns-2)
+route-at-spec = tie.close (tie.spec well-formed-requires returns route-at-core-requires returns-2)

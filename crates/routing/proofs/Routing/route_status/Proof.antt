@@ -1,4 +1,4 @@
--- A state that is not well formed is refused; any other is asked.
+-- A state that is not well formed is refused; any other goes to the core form.
 -- Assumes nothing.
 use mathlib.Core.Path.{sym, _∙_}
 use borrow.Author.Needs.{needs}
@@ -15,12 +15,12 @@ returns : tie.Need-returns
 unfolding routeStatus
 returns c = rw (sym (c .before .well-formed .ensures) ∙ not-true _ (c .if1 .taken))
 
-route-status-requires : tie.Need-route-status-requires
-route-status-requires c κs = state-told _ .fact (sym (c .before .before .well-formed .ensures) ∙ not-false _ (c .before .if1 .left)) .routes
+route-status-core-requires : tie.Need-route-status-core-requires
+route-status-core-requires c κs = state-told _ .fact (sym (c .before .well-formed .ensures) ∙ not-false _ (c .if1 .left))
 
 returns-2 : tie.Need-returns-2
 unfolding routeStatus
-returns-2 c = rw (sym (c .before .before .before .well-formed .ensures) ∙ not-false _ (c .before .before .if1 .left), c .route-status .ensures)
+returns-2 c = rw (sym (c .before .before .well-formed .ensures) ∙ not-false _ (c .before .if1 .left)) (c .route-status-core .ensures)
 
 pub route-status-spec : {M : Type 1} → statement M
-route-status-spec = tie.close (tie.spec well-formed-requires returns route-status-requires returns-2)
+route-status-spec = tie.close (tie.spec well-formed-requires returns route-status-core-requires returns-2)

@@ -1,0 +1,3 @@
+pub mod Decision
+pub mod Tails
+pub mod Numbers

@@ -1,0 +1,32 @@
+-- The two trigger counters as a record of their own: what a signal and a reset make of them.
+-- Document 01, "Route rules": "the two trigger counters at 255. A trigger fires at or above its threshold."
+-- Assumes nothing.
+use Prim.Native.Nat.{ℕ, _+_, min}
+use mathlib.Core.Bool.{Bool}
+use lib.Dec.{leb}
+use Rattle.triggers.specs.declared.Triggers.{Triggers}
+use Rattle.triggers.specs.declared.Noted.{Noted}
+
+-- "the two trigger counters at 255"
+abbrev pub nextCount : ℕ → ℕ
+nextCount n = min (n + 1) 255
+
+-- "A trigger fires at or above its threshold."
+abbrev pub firesAt : ℕ → ℕ → Bool
+firesAt n threshold = leb threshold n
+
+-- an answer and the counters left behind it, as one value
+abbrev pub noted : Bool → Triggers → Noted
+noted b t = record { told = b; counters = t }
+
+-- a route failure was heard: its count goes up, and whether it fires is told
+abbrev pub notedError : Triggers → ℕ → Noted
+notedError t threshold = noted (firesAt (nextCount (t .«mtorr_route_errors»)) threshold) (record { «mtorr_route_errors» = nextCount (t .«mtorr_route_errors»); «mtorr_delivery_failures» = t .«mtorr_delivery_failures» })
+
+-- a delivery of our own failed: its count goes up, and whether it fires is told
+abbrev pub notedFailure : Triggers → ℕ → Noted
+notedFailure t threshold = noted (firesAt (nextCount (t .«mtorr_delivery_failures»)) threshold) (record { «mtorr_route_errors» = t .«mtorr_route_errors»; «mtorr_delivery_failures» = nextCount (t .«mtorr_delivery_failures») })
+
+-- a many-to-one request went out: the signals are spent
+abbrev pub zeroed : Triggers
+zeroed = record { «mtorr_route_errors» = 0; «mtorr_delivery_failures» = 0 }
