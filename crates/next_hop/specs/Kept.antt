@@ -4,6 +4,7 @@
 use Prim.Native.Nat.{ℕ}
 use mathlib.Core.List.{List}
 use mathlib.Core.Path.{_≡_}
+use Rattle.standard.specs.declared.RelayList.{RelayList}
 use Rattle.routing.specs.declared.Routing.{Routing}
 use Rattle.routing.specs.Records.{routeToCore}
 use Rattle.frame.specs.declared.NwkHeader.{NwkHeader}
@@ -31,8 +32,12 @@ pub record SameBesides (h k : NwkHeader) : Type 0 where
   pub source-name : k .«source_ieee» ≡ h .«source_ieee»
   pub control : k .«multicast_control» ≡ h .«multicast_control»
 
+-- the relays that the route query names for the destination of a header
+abbrev pub recordRelays : Routing → NwkHeader → Policy → List ℕ → RelayList
+recordRelays r h p store = routeToCore r (h .destination) (p .«max_source_route») store .relays
+
 -- the header as it came beside any answer, or a source route: the host's, or the one of the destination's record
 pub data Shaped (r : Routing) (h : NwkHeader) (m : SendMode) (p : Policy) (store : List ℕ) : ResolveOutcome → Type 0 where
   kept : (a : NextHop) → Shaped r h m p store (record { answer = a; header = h })
   by-host : Shaped r h m p store (bySourceRoute h (m .relays))
-  by-record : Shaped r h m p store (bySourceRoute h (routeToCore r (h .destination) (p .«max_source_route») store .relays))
+  by-record : Shaped r h m p store (bySourceRoute h (recordRelays r h p store))
