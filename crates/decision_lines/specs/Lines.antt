@@ -5,8 +5,8 @@ use mathlib.Core.List.{List}
 use Rattle.header_numbers.specs.Reading.{headerAt}
 use Rattle.relay_header.specs.Relayed.{cleared}
 use Rattle.next_hop.specs.Decision as decision
+use Rattle.next_hop.specs.Numbers.{resolveSaid, clearSaid}
 use Rattle.decision_numbers.specs.Arguments.{modeAt, pastMode, policyOf}
-use Rattle.decision_numbers.specs.Answers.{resolveSaid, clearSaid}
 use Rattle.world.specs.declared.World.{World}
 use Rattle.world.specs.declared.Reply.{Reply}
 use Rattle.world.specs.Worlds.{asked}

@@ -17,7 +17,7 @@ ghost use Prim.Native.Nat.{_<_, _≤_};
 ghost use Rattle.numbers.specs.Said.{ok, spoken};
 ghost use Rattle.frame.specs.Numbers.{headerNumbers};
 ghost use Rattle.decision_numbers.specs.Arguments.{kindOf, lengthOf, modeAt, pastMode, policyOf};
-ghost use Rattle.decision_numbers.specs.Answers.{resolveSaid, clearSaid};
+ghost use Rattle.next_hop.specs.Numbers.{resolveSaid, clearSaid};
 
 // The kind of a mode's number, with the hop that it may name.
 fn kind(number: u64, hop: Nwk) -> SendKind

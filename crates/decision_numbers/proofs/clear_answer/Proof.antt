@@ -3,7 +3,7 @@ use Prim.Native.Nat.{ℕ}
 use borrow.Author.Needs.{needs}
 use mathlib.Core.List.{_∷_}
 use mathlib.Core.Path.{sym, ap, _∙_}
-use Rattle.decision_numbers.specs.Answers.{clearSaidOf}
+use Rattle.next_hop.specs.Numbers.{truthSaid}
 use Rattle.frame.specs.Numbers.{headerNumbers}
 use Rattle.neighbors.specs.declared.Truth.{Truth}
 use Rattle.numbers.specs.Said.{ok, spoken}
@@ -26,10 +26,10 @@ refused-requires : tie.Need-refused-requires
 refused-requires c κs = search needs
 
 returns : tie.Need-returns
-returns c = c .with-header .ensures ∙ ap (λ (n : ℕ). spoken (ok (n ∷ headerNumbers (c .before .before .before .before .before .before .args .o .header)))) (c .before .flag-number .ensures) ∙ ap (λ (a : Truth). spoken (clearSaidOf (c .before .before .before .before .before .before .args .o .header) a)) (sym (c .before .before .before .answer .given .1))
+returns c = c .with-header .ensures ∙ ap (λ (n : ℕ). spoken (ok (n ∷ headerNumbers (c .before .before .before .before .before .before .args .o .header)))) (c .before .flag-number .ensures) ∙ ap (λ (a : Truth). spoken (truthSaid (c .before .before .before .before .before .before .args .o .header) a)) (sym (c .before .before .before .answer .given .1))
 
 returns-2 : tie.Need-returns-2
-returns-2 c = c .refused .ensures ∙ ap (λ (a : Truth). spoken (clearSaidOf (c .before .before .before .before .before .args .o .header) a)) (sym (c .before .before .answer2 .given .1))
+returns-2 c = c .refused .ensures ∙ ap (λ (a : Truth). spoken (truthSaid (c .before .before .before .before .before .args .o .header) a)) (sym (c .before .before .answer2 .given .1))
 
 pub clear-answer-spec : {M : Type 1} → statement M
 clear-answer-spec =

@@ -1,7 +1,7 @@
 -- Case by case.
 use borrow.Author.Needs.{needs}
 use mathlib.Core.Path.{sym, ap, _∙_}
-use Rattle.decision_numbers.specs.Answers.{decisionSaid}
+use Rattle.next_hop.specs.Numbers.{decisionSaid}
 use Rattle.next_hop.specs.declared.NextHop.{NextHop}
 use Rattle.numbers.specs.Said.{spoken}
 use Rattle.decision_numbers.proofs.resolve_answer.Statement.{statement}
