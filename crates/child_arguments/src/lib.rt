@@ -50,8 +50,8 @@ fn maybe_nwk(args: &[u64], i: usize) -> MaybeNwk
 }
 
 // The place after a value that may be given.
-fn after(args: &[u64], i: usize) -> usize
-    requires { ⌜ i < 8 ⌝ }
+pub fn after(args: &[u64], i: usize) -> usize
+    requires { ⌜ i < 256 ⌝ }
     ensures { λ r. ⌜ r ≡ past (now (args .entry)) i ⌝ }
 {
     if numbers::flag(args, i) { i + 2 } else { i + 1 }

@@ -29,7 +29,7 @@ use Rattle.relay_store.specs.Store.{relayList, agrees, rowsIn, flat}
 use Rattle.relay_store.specs.Packed.{recordsOf, tableFor, storeFor}
 use Rattle.route_record.specs.Answer.{wayTo}
 use Rattle.routing.specs.declared.Routing.{Routing}
-use Rattle.routing.specs.Numbers.{Said, ok, refused}
+use Rattle.numbers.specs.Said.{Said, ok, refused}
 use Rattle.routing.specs.State as state
 use Rattle.neighbors.specs.State as known
 use Rattle.frame.specs.declared.NwkFrameType.the-variants.{Data}

@@ -2,7 +2,7 @@
 -- Document 01, "How each place should look": "If an answer is an enum, a definition gives this paper's number and values for each of its cases."
 -- Assumes nothing.
 use mathlib.Core.List.{_∷_}
-use Rattle.routing.specs.Numbers.{Said, ok, refusedBy, flag}
+use Rattle.numbers.specs.Said.{Said, ok, refusedBy, flagNumber}
 use Rattle.neighbors.specs.declared.Truth.{Truth}
 use Rattle.neighbors.specs.declared.Truth.the-variants as truth
 use Rattle.frame.specs.declared.NwkHeader.{NwkHeader}
@@ -24,7 +24,7 @@ resolveSaid x = decisionSaid (x .header) (x .answer)
 
 -- whether the end device initiator bit was cleared, and after it the header
 abbrev pub truthSaid : NwkHeader → Truth → Said
-truthSaid h (truth.Is b) = ok (flag b ∷ headerNumbers h)
+truthSaid h (truth.Is b) = ok (flagNumber b ∷ headerNumbers h)
 truthSaid h (truth.Refused why) = refusedBy why
 
 abbrev pub clearSaid : ClearOutcome → Said
