@@ -1,4 +1,4 @@
--- Noting a signal in counters that are lent, whichever signal it is: what `note_route_error` and `note_delivery_failure` cite, over the step S that is made by value and the name of the function that makes it. It holds by a walk of their code, by hand: the borrow is opened, the record behind it is copied and passed on, the counters that come back are stored in the record's place, and the borrow is closed at them. Of the callee only its contract is known.
+-- Noting a signal in counters that are lent, whichever signal it is: what `note_route_error` and `note_delivery_failure` cite, over the step S that is made by value and the name of the function that makes it. Walked by hand, once for both: the record is copied out of the place that the borrow opens and goes through the step, by that function's contract alone; what comes back goes into the same place, and the borrow is closed with it inside.
 --     Stepped, Noting      the contracts of a function by value that makes the step S, and of one that is lent a record and notes S in it
 --     function             the code of the second, which calls the first by its name
 --     meets                that code meets `Noting`, where the entry at that name meets `Stepped`
@@ -86,14 +86,14 @@ function key = record {
       return)));
 }
 
--- the machine values of a record of counters, and of an answer with one
-abbrev mach : Triggers → Val
+-- counters, and an answer with counters, as the machine has them
+abbrev pub mach : Triggers → Val
 mach = LL.val T.the-type T′.the-laws
 
-abbrev noted-mach : Noted → Val
+abbrev pub noted-mach : Noted → Val
 noted-mach = LL.val N.the-type N′.the-laws
 
--- the counters of an answer are a record of counters
+-- the counters within a good answer are good
 within : (r : Noted) → Is N.the-row r (noted-mach r ∷ []) → Is T.the-row (r .counters) (mach (r .counters) ∷ [])
 within r is = LL.owed N.the-type N′.the-laws r _ is .1 .0
 
@@ -110,7 +110,7 @@ module _ {M : Type 1} (𝓤 : URA M) (H : Heap 𝓤) (A : Atoms 𝓤) (W : Given
   abbrev Post : Val → SProp 𝓤
   Post = walkOf 𝓤 H A lent stayed (notes 𝓤 S) .post (((κ, tt), (q, tt), tt, x, at), tt)
 
-  -- the call: what it is passed, what it asks, and what is known of its answer
+  -- calling the step: with the record and the threshold, which are remade for it, and its answer is S of them
   abbrev to-call : Stepped 𝓤 S H A .Ghost
   to-call = ((tt, tt, tt, (h, (n, tt)), (mach h ∷ [], (vint w8 n ∷ [], tt))), tt)
 
@@ -134,12 +134,12 @@ module _ {M : Type 1} (𝓤 : URA M) (H : Heap 𝓤) (A : Atoms 𝓤) (W : Given
     walk =
         qed W ((‵ (flft κ q) ⊛ ‵ ftrue) ∷ ‵ (owns (MutRef (named 0) κ T.the-row ∷ u8 ∷ []) x at) ∷ []) ∵ split ! $ move ! (2 ∷ []) $ fsplit ! $ move ! (1 ∷ []) $ fsplit ! $
         peeks ! u8 (Is u8) (shows 𝓤 H A u8) n (vint w8 n ∷ []) (λ gn. move ! (2 ∷ []) $ fsplit3 ! $ drop ! $ move ! (0 ∷ 1 ∷ 4 ∷ []) $
-        -- [obs; the borrow; the token; what the threshold owns; true; true]
+        -- first in hand: the observation, the borrow and its lifetime's token
         enter ! C Λ (function key) (vptr b o ∷ vint w8 n ∷ []) _ $
         alloc1 ! (λ l₀. alloc1 ! (λ l₁. alloc1 ! (λ l₂. alloc1 ! (λ l₃. alloc1 ! (λ l₄. alloc0 ! $ params1 ! $ pass1 ! (init ! 6 refl (tt, tt)) $ pass1 ! (init ! 4 refl (tt, record { fits = gn .1 })) $ pass0 ! $
         move ! (10 ∷ 11 ∷ 12 ∷ []) $ opens ! tt T.the-row {h = h} b o (λ vs. spelt ! T.the-row (Is T.the-row) (shows 𝓤 H A T.the-row) (LL.vals T.the-type T′.the-laws) (LL.tells T.the-type T′.the-laws) fullShare h vs b o $
         move ! (1 ∷ []) $ peeks ! T.the-row (Is T.the-row) (shows 𝓤 H A T.the-row) h (mach h ∷ []) (λ was. drop ! $
-        -- [the record's cell; the open borrow; obs; auth; room for _4; …; room for _3; …; _2; …; _1; …; room for _0; …]
+        -- first in hand: the record's place, then the borrow's three parts, then the locals from the last to the first
         assigns ! (of-opd ! (load ! (from ! (hop ! (look ! 10 refl) (stop !))) (look-raw ! 0 refl))) (from ! (stop !)) (init ! 4 refl (LL.lawful T.the-type T′.the-laws 𝓤 H A W .typed h _ was .0)) $
         use0 W (raw (Stepped 𝓤 S H A .pre to-call)) (goes-call (gn .1) was) $
         calls-at ! fm (Stepped 𝓤 S H A) known to-call (and-then ! (load ! (from ! (stop !)) (look ! 5 refl)) (and-then ! (load ! (from ! (stop !)) (look ! 9 refl)) (no-more !))) (λ v.
@@ -149,7 +149,7 @@ module _ {M : Type 1} (𝓤 : URA M) (H : Heap 𝓤) (A : Atoms 𝓤) (W : Given
         let spelled : v ≡ noted-mach r = ap only (LL.tells N.the-type N′.the-laws r (v ∷ []) is) in
         let has = within r (rw spelled at is) in
         land ! (from ! (stop !)) (init ! 6 refl (LL.lawful N.the-type N′.the-laws 𝓤 H A W .typed r _ is .0)) $ rewrite ! 6 (λ (u : Val). ‵ (fat fullShare N′.mir l₃ 0 u)) spelled refl $
-        -- [the record's cell; the open borrow; obs; auth; _4; …; _3; …; _2; …; _1; …; room for _0; …]
+        -- the answer is in _3: its counters go into the record's place, and what it tells is returned
         assigns ! (of-opd ! (load ! (from ! (fld ! refl (stop !))) (look-in ! 6 (sub ! 1 refl (whole !))))) (from ! (hop ! (look ! 10 refl) (stop !))) (store-raw ! 0 refl (LL.lawful T.the-type T′.the-laws 𝓤 H A W .typed (r .counters) _ has .0)) $
         assigns ! (of-opd ! (load ! (from ! (fld ! refl (stop !))) (look-in ! 6 (sub ! 0 refl (whole !))))) (from ! (stop !)) (init ! 12 refl (tt, tt)) $
         owned ! T.the-row (Is T.the-row) (LL.makes T.the-type T′.the-plain 𝓤 H A) (r .counters) _ has $ move ! (1 ∷ 0 ∷ []) $ closes ! tt T.the-row (r .counters) (mach (r .counters) ∷ []) b o $

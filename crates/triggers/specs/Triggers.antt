@@ -2,8 +2,8 @@
 -- Document 01, "Route rules": "the two trigger counters at 255. A trigger fires at or above its threshold."
 -- Assumes nothing.
 use Prim.Native.Nat.{ℕ, _+_, min}
-use mathlib.Core.Bool.{Bool}
-use lib.Dec.{leb}
+use mathlib.Core.Bool.{Bool, false, cond}
+use lib.Dec.{leb, eqb}
 use Rattle.triggers.specs.declared.Triggers.{Triggers}
 use Rattle.triggers.specs.declared.Noted.{Noted}
 
@@ -15,18 +15,26 @@ nextCount n = min (n + 1) 255
 abbrev pub firesAt : ℕ → ℕ → Bool
 firesAt n threshold = leb threshold n
 
+-- the two counts as a record
+abbrev pub countersOf : ℕ → ℕ → Triggers
+countersOf errors failures = record { «mtorr_route_errors» = errors; «mtorr_delivery_failures» = failures }
+
 -- an answer and the counters left behind it, as one value
 abbrev pub noted : Bool → Triggers → Noted
 noted b t = record { told = b; counters = t }
 
 -- a route failure was heard: its count goes up, and whether it fires is told
 abbrev pub notedError : Triggers → ℕ → Noted
-notedError t threshold = noted (firesAt (nextCount (t .«mtorr_route_errors»)) threshold) (record { «mtorr_route_errors» = nextCount (t .«mtorr_route_errors»); «mtorr_delivery_failures» = t .«mtorr_delivery_failures» })
+notedError t threshold = noted (firesAt (nextCount (t .«mtorr_route_errors»)) threshold) (countersOf (nextCount (t .«mtorr_route_errors»)) (t .«mtorr_delivery_failures»))
 
 -- a delivery of our own failed: its count goes up, and whether it fires is told
 abbrev pub notedFailure : Triggers → ℕ → Noted
-notedFailure t threshold = noted (firesAt (nextCount (t .«mtorr_delivery_failures»)) threshold) (record { «mtorr_route_errors» = t .«mtorr_route_errors»; «mtorr_delivery_failures» = nextCount (t .«mtorr_delivery_failures») })
+notedFailure t threshold = noted (firesAt (nextCount (t .«mtorr_delivery_failures»)) threshold) (countersOf (t .«mtorr_route_errors») (nextCount (t .«mtorr_delivery_failures»)))
 
 -- a many-to-one request went out: the signals are spent
 abbrev pub zeroed : Triggers
-zeroed = record { «mtorr_route_errors» = 0; «mtorr_delivery_failures» = 0 }
+zeroed = countersOf 0 0
+
+-- the step that a number names: 0 notes a route failure, 1 a failed delivery, and any other number spends the signals and tells nothing
+abbrev pub countedBy : ℕ → Triggers → ℕ → Noted
+countedBy signal t threshold = cond (eqb signal 0) (notedError t threshold) (cond (eqb signal 1) (notedFailure t threshold) (noted false zeroed))

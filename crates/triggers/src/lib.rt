@@ -1,7 +1,7 @@
 // The two trigger counters of the routing state as a small record, by value and lent for change.
 // A function that is lent the record is proved by a walk of its code, by hand; the work is done by value, where the code is covered.
 ghost use mathlib.Core.Path.{_≡_};
-ghost use Rattle.triggers.specs.Triggers.{nextCount, firesAt, noted, notedError, notedFailure, zeroed};
+ghost use Rattle.triggers.specs.Triggers.{nextCount, firesAt, countersOf, noted, notedError, notedFailure, zeroed, countedBy};
 
 // The signals counted toward an early many-to-one route request.
 pub struct Triggers {
@@ -88,4 +88,23 @@ pub fn reset_mtorr_triggers(t: &mut Triggers)
     ensures { λ _. ⌜ now (t .exit) ≡ zeroed ⌝ }
 {
     *t = spent();
+}
+
+// The same over plain values, for callers with no record to lend: 0 notes a route failure, 1 a failed delivery, and any other number spends the signals, which tells nothing.
+pub fn counted(errors: u8, failures: u8, signal: u8, threshold: u8) -> Noted
+    ensures { λ r. ⌜ r ≡ countedBy signal (countersOf errors failures) threshold ⌝ }
+{
+    let mut t = Triggers {
+        mtorr_route_errors: errors,
+        mtorr_delivery_failures: failures,
+    };
+    let told = match signal {
+        0 => note_route_error(&mut t, threshold),
+        1 => note_delivery_failure(&mut t, threshold),
+        _ => {
+            reset_mtorr_triggers(&mut t);
+            false
+        }
+    };
+    Noted { told, counters: t }
 }

@@ -1,4 +1,4 @@
--- `triggers::reset_mtorr_triggers` meets its contract: a walk of its code, by hand. The counters come from `spent`, of which only its contract is known; the borrow is opened, they are stored in the record's place, and the borrow is closed at them.
+-- Walked by hand: `spent` answers with empty counters, by its contract alone; they go into the place that the borrow opens, and it is closed with them inside.
 -- Assumes nothing.
 use mathlib.Core.Path.{_≡_, refl, ap}
 use Prim.Native.Nat.{ℕ}
@@ -50,7 +50,7 @@ use Rattle.triggers.proofs.reset_mtorr_triggers.Code as code
 abbrev stayed : Stays (f.ended .signature .params) (f.ended .kept)
 stayed = (stay-ref (0 ∷ []) tt (plain (λ _. T.the-row)), tt)
 
--- the contract that the proof cites
+-- what is relied on of `spent`
 abbrev Called : {M : Type 1} (𝓤 : URA M) (H : Heap 𝓤) (A : Atoms 𝓤) (at-mem : Memory → SProp 𝓤) (run : Routine → Fun 𝓤) → Contract 𝓤
 Called 𝓤 H A at-mem run = tripleOf 𝓤 H A g.signature (g.spec 𝓤 H A at-mem run)
 
@@ -64,14 +64,14 @@ module _ {M : Type 1} (𝓤 : URA M) (H : Heap 𝓤) (A : Atoms 𝓤) (W : Given
   abbrev at : List Val × Unit {0}
   at = (vptr b o ∷ [], tt)
 
-  -- the machine value of a record of counters
+  -- counters as the machine has them
   abbrev mach : Triggers → Val
   mach = LL.val T.the-type T′.the-laws
 
   abbrev Post : Val → SProp 𝓤
   Post = walkOf 𝓤 H A f.ended stayed (f.clauses 𝓤 H A at-mem run) .post (((κ, tt), (q, tt), tt, x, at), tt)
 
-  -- the call: what it is passed, what it asks, and what is known of its answer
+  -- calling it: with nothing, for nothing, and its answer has no signals
   abbrev to-call : Called 𝓤 H A at-mem run .Ghost
   to-call = ((tt, tt, tt, tt, tt), tt)
 
@@ -91,7 +91,7 @@ module _ {M : Type 1} (𝓤 : URA M) (H : Heap 𝓤) (A : Atoms 𝓤) (W : Given
     walk : ent 𝓤 (onEntry 𝓤 H A f.signature (κ, tt) (q, tt) x at) (WpFn 𝓤 H C Λ code.function (vptr b o ∷ []) Post)
     walk =
         qed W ((‵ (flft κ q) ⊛ ‵ ftrue) ∷ ‵ (owns (MutRef (named 0) κ T.the-row ∷ []) x at) ∷ []) ∵ split ! $ move ! (2 ∷ []) $ fsplit ! $ fsplit3 ! $ drop ! $ move ! (0 ∷ 1 ∷ 3 ∷ []) $
-        -- [obs; the borrow; the token; true; true]
+        -- first in hand: the observation, the borrow and its lifetime's token
         enter ! C Λ code.function (vptr b o ∷ []) _ $
         alloc1 ! (λ l₀. alloc1 ! (λ l₁. alloc1 ! (λ l₂. alloc0 ! $ params1 ! $ pass1 ! (init ! 2 refl (tt, tt)) $ pass0 ! $
         use0 W (raw (Called 𝓤 H A at-mem run .pre to-call)) goes-call $ calls-at ! fm (Called 𝓤 H A at-mem run) known to-call (no-more !) (λ v.
@@ -103,7 +103,7 @@ module _ {M : Type 1} (𝓤 : URA M) (H : Heap 𝓤) (A : Atoms 𝓤) (W : Given
         land ! (from ! (stop !)) (init ! 0 refl (LL.lawful T.the-type T′.the-laws 𝓤 H A W .typed r _ is .0)) $ rewrite ! 0 (λ (u : Val). ‵ (fat fullShare T′.mir l₂ 0 u)) spelled refl $
         move ! (6 ∷ 7 ∷ 8 ∷ []) $ opens ! tt T.the-row {h = h} b o (λ vs. spelt ! T.the-row (Is T.the-row) (shows 𝓤 H A T.the-row) (LL.vals T.the-type T′.the-laws) (LL.tells T.the-type T′.the-laws) fullShare h vs b o $
         move ! (1 ∷ []) $ drop ! $
-        -- [the record's cell; the open borrow; obs; auth; _2; …; _1; …; room for _0; …]
+        -- first in hand: the record's place, then the borrow's three parts, then the locals from the last to the first
         assigns ! (of-opd ! (load ! (from ! (stop !)) (look ! 4 refl))) (from ! (hop ! (look ! 6 refl) (stop !))) (store-raw ! 0 refl (LL.lawful T.the-type T′.the-laws 𝓤 H A W .typed r _ has .0)) $
         assigns ! (of-opd ! (unit-lit !)) (from ! (stop !)) (init ! 8 refl (tt, tt)) $
         owned ! T.the-row (Is T.the-row) (LL.makes T.the-type T′.the-plain 𝓤 H A) r _ has $ move ! (1 ∷ 0 ∷ []) $ closes ! tt T.the-row r (mach r ∷ []) b o $
