@@ -3,7 +3,7 @@
 -- Assumes nothing.
 use Prim.Native.Nat.{ℕ}
 use mathlib.Core.List.{List, [], _∷_, _++_}
-use Rattle.routing.specs.Numbers.{Said, ok, refusedBy}
+use Rattle.numbers.specs.Said.{Said, ok, refusedBy}
 use Rattle.frame.specs.declared.NwkHeader.{NwkHeader}
 use Rattle.frame.specs.Numbers.{headerNumbers}
 use Rattle.next_hop.specs.declared.NextHop.{NextHop}
