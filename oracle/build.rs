@@ -73,4 +73,19 @@ fn main() {
     let text =
         format!("{outer}\npub mod nwk {{\npub use crate::stand_ins::{{NwkDeviceType, commands, frame}};\n{inner}}}\n");
     fs::write(out.join("sources.rs"), text).unwrap_or_else(|e| stop(&format!("the module list: {e}")));
+    link_speed();
+}
+
+/// The benchmark alone links the static library `speed`; `ORACLE_SPEED` names its directory.
+fn link_speed() {
+    println!("cargo:rerun-if-env-changed=ORACLE_SPEED");
+    if env::var_os("CARGO_FEATURE_BENCH").is_none() {
+        return;
+    }
+    let Some(directory) = env::var_os("ORACLE_SPEED").map(PathBuf::from) else {
+        stop("ORACLE_SPEED names no directory of libspeed.a; oracle/bench sets it");
+    };
+    let archive = directory.join("libspeed.a");
+    println!("cargo:rerun-if-changed={}", archive.display());
+    println!("cargo:rustc-link-arg-bin=bench={}", archive.display());
 }

@@ -2,7 +2,7 @@
 -- Document 01, "Decision (001) and neighbours (003)": "Entries with outgoing cost above 0 add 7 less the larger cost, stopping at
 -- 255; diversity adds only for addresses without a live link before the call. A mention of the own address makes its incoming cost
 -- our outgoing cost; the last mention wins."
-use Prim.Native.Nat.{ℕ, _+_, _-_, min, max}
+use Prim.Native.Nat.{ℕ, _+_, _-_, _*_, min, max}
 use mathlib.Core.Bool.{Bool, cond, not, _&&_}
 use mathlib.Core.List.{List, [], _∷_}
 use lib.Dec.{eqb, leb, ltb}
@@ -12,7 +12,7 @@ use Rattle.standard.specs.Query.{someFits}
 use Rattle.neighbor_table.specs.declared.NeighborEntry.{NeighborEntry}
 use Rattle.neighbor_queries.specs.declared.Filter.the-variants.{LiveLinkAt}
 use Rattle.neighbor_queries.specs.declared.LinkStatus.{LinkStatus}
-use Rattle.neighbor_queries.specs.Filter.{fits}
+use Rattle.neighbor_queries.specs.Filter.{fits, isLive}
 use Rattle.link_status.specs.declared.LinkStatusCommand.{LinkStatusCommand}
 use Rattle.link_status.specs.declared.Tally.{Tally}
 
@@ -31,6 +31,14 @@ worth status = 7 - max (status .«incoming_cost») (status .«outgoing_cost»)
 -- an address has a live link
 abbrev pub isLiveAt : List NeighborEntry → Nwk → Bool
 isLiveAt xs nwk = someFits (fits (LiveLinkAt nwk)) xs
+
+-- an address doubled, and one more where the link to it is live
+abbrev pub liveNumber : NeighborEntry → ℕ
+liveNumber e = cond (isLive e) (e .«network_address» .0 * 2 + 1) (e .«network_address» .0 * 2)
+
+-- a number is among numbers
+abbrev pub among : ℕ → List ℕ → Bool
+among x xs = someFits (λ y. eqb y x) xs
 
 -- one status more
 unfoldable pub counted : Nwk → Bool → LinkStatus → Tally → Tally

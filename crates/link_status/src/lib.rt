@@ -1,7 +1,6 @@
 // Link status commands: what a neighbour says of its links, and what that makes of our entry for it.
 // A call on a state that is not well formed is refused; its core form asks for a well-formed one and tests nothing of it.
 use children::NwkOutcome;
-use neighbor_queries::Filter;
 use neighbor_queries::LinkStatus;
 use neighbor_table::NeighborEntry;
 use neighbor_table::NeighborTable;
@@ -16,9 +15,10 @@ use types::Refusal;
 use types::Sum;
 use waiting_table::WaitingTable;
 ghost use mathlib.Core.Bool.{cond, true};
+ghost use mathlib.Core.List.{map};
 ghost use mathlib.Core.Path.{_≡_};
 ghost use Prim.Native.Nat.{_+_, _-_, _≤_, _<_, min};
-ghost use lib.ListN.{take};
+ghost use lib.ListN.{take, length};
 ghost use Rattle.flat_map.specs.Table.{every};
 ghost use Rattle.standard.specs.Ordered.{countWith};
 ghost use Rattle.neighbor_table.specs.Entry.{neighborKey};
@@ -26,7 +26,7 @@ ghost use Rattle.neighbors.specs.State.{WellFormed, rows};
 ghost use Rattle.children.specs.Calls.{refusedTaken};
 ghost use Rattle.link_status.specs.Digest.{WaitingFormed, waitingRows, asRouter, begun, finished, newRouter, samplesOf, digested, admitted, onLinkStatusCore, onLinkStatus};
 ghost use Rattle.neighbor_table.specs.Table.{Formed64, rowsOf};
-ghost use Rattle.link_status.specs.Statuses.{costsFit, worth, counted, tallied, isLiveAt, statusesOf};
+ghost use Rattle.link_status.specs.Statuses.{costsFit, worth, counted, tallied, isLiveAt, liveNumber, among, statusesOf};
 
 // The statuses of one command; the count may pass the capacity.
 pub struct LinkStatusCommand {
@@ -112,19 +112,64 @@ fn count_one(own: Nwk, live: bool, status: LinkStatus, x: Tally) -> Tally
     }
 }
 
+// A neighbour's address doubled, and one more where the link to it is live.
+fn live_number(e: NeighborEntry) -> u64
+    ensures { λ r. ⌜ r ≡ liveNumber e ⌝ }
+{
+    let address = e.network_address;
+    let doubled = address.0 as u64 * 2;
+    if 0 < e.outgoing_cost {
+        doubled + 1
+    } else {
+        doubled
+    }
+}
+
+// The numbers of all neighbours, so that the table is gone through once and not for each status.
+fn live_numbers(t: NeighborTable) -> [u64; 64]
+    requires { ⌜ Formed64 t ⌝ }
+    ensures { λ r. ⌜ take (t .count) r ≡ map liveNumber (rowsOf t) ⌝ }
+{
+    let n = t.count;
+    let mut numbers = [0u64; 64];
+    let mut i: usize = 0;
+    while i < n {
+        let e = t.entries[i];
+        numbers[i] = live_number(e);
+        i += 1;
+    }
+    numbers
+}
+
+// Whether a number is among the first n.
+fn is_among(numbers: &[u64], n: usize, x: u64) -> bool
+    requires { ⌜ n ≤ length (now numbers) ⌝ }
+    ensures { λ r. ⌜ r ≡ among x (take n (now (numbers .entry))) ⌝ }
+{
+    let mut found = false;
+    let mut i: usize = 0;
+    while i < n {
+        found |= numbers[i] == x;
+        i += 1;
+    }
+    found
+}
+
 // All statuses of a command, in their order; live links are judged by the table as it is before the call.
 fn add_up(t: NeighborTable, own: Nwk, command: LinkStatusCommand, start: Tally) -> Tally
     requires { ⌜ Formed64 t × (command .count ≤ 31) × (every costsFit (statusesOf command) ≡ true) ⌝ }
     ensures { λ r. ⌜ r ≡ tallied own (isLiveAt (rowsOf t)) (statusesOf command) start ⌝ }
 {
     let n = command.count;
+    let known = t.count;
+    let numbers = live_numbers(t);
     let mut x = start;
     let mut i: usize = 0;
     while i < n {
         let status = command.statuses[i];
         let address = status.address;
-        let live = neighbor_queries::first_fitting(t, Filter::LiveLinkAt(address));
-        x = count_one(own, live.found, status, x);
+        let live = is_among(&numbers, known, address.0 as u64 * 2 + 1);
+        x = count_one(own, live, status, x);
         i += 1;
     }
     x

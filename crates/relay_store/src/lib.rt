@@ -120,18 +120,17 @@ pub fn put_row(store: &mut [u16], place: Place, l: RelayList)
     }
 }
 
-// Whether the numbers of a row from `from` on are 0.
+// Whether the numbers of a row from `from` on are 0. All of them are read: a loop with no way out is done many numbers at a time.
 fn zero_after(row: &[u16], from: usize) -> bool
     ensures { λ r. ⌜ Tells (ZeroFrom (now (row .entry)) from) r ⌝ }
 {
+    let mut zero = true;
     let mut i = from;
     while i < row.len() {
-        if row[i] != 0 {
-            return false;
-        }
+        zero &= row[i] == 0;
         i += 1;
     }
-    true
+    zero
 }
 
 // Whether a store agrees with a table: 64 rows, each zero after the relays of its record.
