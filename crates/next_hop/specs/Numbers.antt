@@ -1,16 +1,10 @@
 -- The number and the values of a decision: resolved 0 and the hop, discovery needed 1, discard 2, and after them the header.
 -- Document 01, "How each place should look": "If an answer is an enum, a definition gives this paper's number and values for each of its cases."
 -- Assumes nothing.
-<<<<<<< HEAD
 use mathlib.Core.List.{_∷_}
 use Rattle.numbers.specs.Said.{Said, ok, refusedBy, flagNumber}
 use Rattle.neighbors.specs.declared.Truth.{Truth}
 use Rattle.neighbors.specs.declared.Truth.the-variants as truth
-=======
-use Prim.Native.Nat.{ℕ}
-use mathlib.Core.List.{List, [], _∷_, _++_}
-use Rattle.numbers.specs.Said.{Said, ok, refusedBy}
->>>>>>> 74e8e15f9ccb417491a70f38b34aa8e708d33267
 use Rattle.frame.specs.declared.NwkHeader.{NwkHeader}
 use Rattle.frame.specs.Numbers.{headerNumbers}
 use Rattle.relay_header.specs.declared.ClearOutcome.{ClearOutcome}

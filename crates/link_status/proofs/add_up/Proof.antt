@@ -10,15 +10,9 @@ use native.Mathlib.Omega.{arith}
 use Rattle.flat_map.proofs.Shift.{unmapped}
 use Rattle.neighbor_queries.specs.declared.LinkStatus.{LinkStatus}
 use Rattle.neighbor_table.specs.Table.{rowsOf}
-<<<<<<< HEAD
-use Rattle.neighbor_table.specs.declared.NeighborLookup.{NeighborLookup}
-use Rattle.neighbors.proofs.Checked.{found-fits}
 use Rattle.neighbor_queries.proofs.Given.{next-given, none-given}
-use Rattle.link_status.proofs.Lists.{fit-at}
-=======
 use Rattle.link_status.proofs.Live.{among-live}
-use Rattle.link_status.proofs.Lists.{next-status, no-status, fit-at}
->>>>>>> 74e8e15f9ccb417491a70f38b34aa8e708d33267
+use Rattle.link_status.proofs.Lists.{fit-at}
 use Rattle.neighbor_queries.specs.Lists.{noStatus}
 use Rattle.types.specs.declared.Nwk.{Nwk}
 use Rattle.link_status.specs.Statuses.{isLiveAt, among, statusesOf, counted, tallied}
@@ -88,30 +82,18 @@ loop-again c =
     let own = s .args .own in
     let live = liveBy (s .args .t .count) (at .before .live-numbers .result) in
     let left = drop (v .i + 1) (statusesOf (s .args .t3)) in (
-<<<<<<< HEAD
-      search needs,
-      ap (tallied own live left) (c .count-one .ensures ∙ ap (λ (b : Bool). counted own b (getD (s .args .t3 .statuses) (v .i) noStatus) (v .x)) (ap (λ (l : NeighborLookup). l .found) (c .before .first-fitting .ensures) ∙ found-fits _ _))
-          ∙ sym (ap (λ (l : List LinkStatus). tallied own live l (v .x)) (next-given (s .args .t3 .statuses) (s .args .t3 .count) (v .i) (omega (arith, s .pre .1, long s)) noStatus (search needs)))
-=======
-      omega (arith, inside .loop-test .taken),
-      ap (tallied own live left) (c .count-one .ensures ∙ ap (λ (b : Bool). counted own b (getD (s .args .t3 .statuses) (v .i) noStatus) (v .x)) (c .before .is-among .ensures))
-          ∙ sym (ap (λ (l : List LinkStatus). tallied own live l (v .x)) (next-status (s .args .t3 .statuses) (s .args .t3 .count) (v .i) (omega (arith, s .pre .1, long s)) noStatus (inside .loop-test .taken)))
->>>>>>> 74e8e15f9ccb417491a70f38b34aa8e708d33267
+use Rattle.neighbor_queries.proofs.Given.{next-given, none-given}
+use Rattle.link_status.proofs.Live.{among-live}
+use Rattle.link_status.proofs.Lists.{fit-at}
           ∙ v .inv .1,
     )
 
 returns : tie.Need-returns Inv-loop μ-loop
 returns c =
     let v = c .before .loop in
-<<<<<<< HEAD
-    let s = c .before .before in
-    sym (ap (λ (l : List LinkStatus). tallied (s .args .own) (isLiveAt (rowsOf (s .args .t))) l (v .x)) (none-given (s .args .t3 .statuses) (s .args .t3 .count) (v .i) (omega (arith, s .pre .1, long s)) (search needs)))
-=======
-    let made = c .before .before in
-    let s = made .before in
-    let same : _≡_ {A = Nwk → Bool} (liveBy (s .args .t .count) (made .live-numbers .result)) (isLiveAt (rowsOf (s .args .t))) = λ z. λ (a : Nwk). (ap (among (a .0 * 2 + 1)) (made .live-numbers .ensures) ∙ among-live a (rowsOf (s .args .t))) z in
-    sym (ap (λ (l : List LinkStatus). tallied (s .args .own) (liveBy (s .args .t .count) (made .live-numbers .result)) l (v .x)) (no-status (s .args .t3 .statuses) (s .args .t3 .count) (v .i) (omega (arith, s .pre .1, long s)) (search needs)))
->>>>>>> 74e8e15f9ccb417491a70f38b34aa8e708d33267
+use Rattle.neighbor_queries.proofs.Given.{next-given, none-given}
+use Rattle.link_status.proofs.Live.{among-live}
+use Rattle.link_status.proofs.Lists.{fit-at}
     ∙ v .inv .1
     ∙ ap (λ (f : Nwk → Bool). tallied (s .args .own) f (statusesOf (s .args .t3)) (s .args .start)) same
 
