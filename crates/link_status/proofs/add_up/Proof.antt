@@ -10,8 +10,8 @@ use native.Mathlib.Omega.{arith}
 use Rattle.flat_map.proofs.Shift.{unmapped}
 use Rattle.neighbor_queries.specs.declared.LinkStatus.{LinkStatus}
 use Rattle.neighbor_table.specs.Table.{rowsOf}
-use Rattle.neighbor_queries.proofs.Given.{next-given, none-given}
 use Rattle.link_status.proofs.Live.{among-live}
+use Rattle.neighbor_queries.proofs.Given.{next-given, none-given}
 use Rattle.link_status.proofs.Lists.{fit-at}
 use Rattle.neighbor_queries.specs.Lists.{noStatus}
 use Rattle.types.specs.declared.Nwk.{Nwk}
@@ -82,18 +82,19 @@ loop-again c =
     let own = s .args .own in
     let live = liveBy (s .args .t .count) (at .before .live-numbers .result) in
     let left = drop (v .i + 1) (statusesOf (s .args .t3)) in (
-use Rattle.neighbor_queries.proofs.Given.{next-given, none-given}
-use Rattle.link_status.proofs.Live.{among-live}
-use Rattle.link_status.proofs.Lists.{fit-at}
+      omega (arith, inside .loop-test .taken),
+      ap (tallied own live left) (c .count-one .ensures ∙ ap (λ (b : Bool). counted own b (getD (s .args .t3 .statuses) (v .i) noStatus) (v .x)) (c .before .is-among .ensures))
+          ∙ sym (ap (λ (l : List LinkStatus). tallied own live l (v .x)) (next-given (s .args .t3 .statuses) (s .args .t3 .count) (v .i) (omega (arith, s .pre .1, long s)) noStatus (inside .loop-test .taken)))
           ∙ v .inv .1,
     )
 
 returns : tie.Need-returns Inv-loop μ-loop
 returns c =
     let v = c .before .loop in
-use Rattle.neighbor_queries.proofs.Given.{next-given, none-given}
-use Rattle.link_status.proofs.Live.{among-live}
-use Rattle.link_status.proofs.Lists.{fit-at}
+    let made = c .before .before in
+    let s = made .before in
+    let same : _≡_ {A = Nwk → Bool} (liveBy (s .args .t .count) (made .live-numbers .result)) (isLiveAt (rowsOf (s .args .t))) = λ z. λ (a : Nwk). (ap (among (a .0 * 2 + 1)) (made .live-numbers .ensures) ∙ among-live a (rowsOf (s .args .t))) z in
+    sym (ap (λ (l : List LinkStatus). tallied (s .args .own) (liveBy (s .args .t .count) (made .live-numbers .result)) l (v .x)) (none-given (s .args .t3 .statuses) (s .args .t3 .count) (v .i) (omega (arith, s .pre .1, long s)) (search needs)))
     ∙ v .inv .1
     ∙ ap (λ (f : Nwk → Bool). tallied (s .args .own) f (statusesOf (s .args .t3)) (s .args .start)) same
 
