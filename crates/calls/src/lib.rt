@@ -1,0 +1,232 @@
+// One call given as numbers, answered as numbers.
+use numbers::Answer;
+use world::Reply;
+use world::World;
+ghost use mathlib.Core.Path.{_≡_};
+ghost use Rattle.numbers.specs.Said.{spoken};
+ghost use Rattle.lines.specs.Lines.{lineSaid};
+ghost use Rattle.table_lines.specs.Loaded.{worldLines};
+ghost use Rattle.calls.specs.Groups.{setUp, damageBy, groupOf, callPlain, callOf, storeOf};
+
+// The group of each number, 0 for what is no call here.
+const GROUPS: [u64; 87] = [
+    9,
+    0,
+    1,
+    9,
+    9,
+    9,
+    11,
+    9,
+    9,
+    2,
+    2,
+    2,
+    1,
+    1,
+    1,
+    1,
+    2,
+    2,
+    2,
+    2,
+    2,
+    3,
+    11,
+    11,
+    3,
+    3,
+    1,
+    11,
+    11,
+    3,
+    3,
+    3,
+    3,
+    4,
+    7,
+    4,
+    4,
+    4,
+    6,
+    6,
+    6,
+    4,
+    4,
+    4,
+    6,
+    5,
+    5,
+    5,
+    8,
+    8,
+    7,
+    8,
+    6,
+    5,
+    8,
+    8,
+    8,
+    5,
+    8,
+    7,
+    5,
+    6,
+    6,
+    7,
+    7,
+    7,
+    7,
+    8,
+    0,
+    0,
+    0,
+    1,
+    1,
+    1,
+    11,
+    10,
+    10,
+    10,
+    10,
+    10,
+    10,
+    10,
+    10,
+    10,
+    10,
+    0,
+    0,
+];
+
+// The lines that set a state up.
+pub fn set_up(world: World, number: u64, args: &[u64]) -> Reply
+    ensures { λ r. ⌜ r ≡ setUp world number (now (args .entry)) ⌝ }
+{
+    if number == 0 {
+        return table_lines::reset();
+    }
+    if number == 3 {
+        return table_lines::put_counters(world, args);
+    }
+    if number == 4 {
+        return table_lines::put_route(world, args);
+    }
+    if number == 5 {
+        return table_lines::put_discovery(world, args);
+    }
+    if number == 7 {
+        return table_lines::put_neighbour(world, args);
+    }
+    if number == 8 {
+        return table_lines::put_waiting(world, args);
+    }
+    let answer = numbers::no_call();
+    world::asked(world, answer)
+}
+
+// The lines that damage a state.
+pub fn damage(world: World, number: u64, args: &[u64]) -> Reply
+    ensures { λ r. ⌜ r ≡ damageBy world number (now (args .entry)) ⌝ }
+{
+    if number == 75 {
+        return table_lines::set_route_count(world, args);
+    }
+    if number == 76 {
+        return table_lines::set_discovery_count(world, args);
+    }
+    if number == 77 {
+        return table_lines::set_record_count(world, args);
+    }
+    if number == 78 {
+        return table_lines::set_neighbour_count(world, args);
+    }
+    if number == 79 {
+        return table_lines::set_waiting_count(world, args);
+    }
+    if number == 80 {
+        return table_lines::set_route_key(world, args);
+    }
+    if number == 81 {
+        return table_lines::set_discovery_key(world, args);
+    }
+    if number == 82 {
+        return table_lines::set_record_key(world, args);
+    }
+    if number == 83 {
+        return table_lines::set_neighbour_key(world, args);
+    }
+    if number == 84 {
+        return table_lines::set_waiting_key(world, args);
+    }
+    let answer = numbers::no_call();
+    world::asked(world, answer)
+}
+
+// The group of a number.
+fn group(number: u64) -> u64
+    ensures { λ r. ⌜ r ≡ groupOf number ⌝ }
+{
+    if number < 87 {
+        let i = number as usize;
+        return GROUPS[i];
+    }
+    0
+}
+
+// A call that is not lent the store.
+fn plain(world: World, group: u64, number: u64, args: &[u64]) -> Reply
+    ensures { λ r. ⌜ r ≡ callPlain world group number (now (args .entry)) ⌝ }
+{
+    if group == 1 {
+        return routing_groups::ask_routing(world, number, args);
+    }
+    if group == 2 {
+        return routing_groups::change_routes(world, number, args);
+    }
+    if group == 3 {
+        return routing_groups::change_searches(world, number, args);
+    }
+    if group == 4 {
+        return neighbor_groups::ask_neighbors(world, number, args);
+    }
+    if group == 5 {
+        return neighbor_groups::ask_children(world, number, args);
+    }
+    if group == 6 {
+        return neighbor_groups::list_neighbors(world, number, args);
+    }
+    if group == 7 {
+        return neighbor_groups::note_neighbors(world, number, args);
+    }
+    if group == 8 {
+        return neighbor_groups::change_children(world, number, args);
+    }
+    if group == 9 {
+        return set_up(world, number, args);
+    }
+    if group == 10 {
+        return damage(world, number, args);
+    }
+    let answer = numbers::no_call();
+    world::asked(world, answer)
+}
+
+// The call of a number. What is no call here leaves the world and the store.
+pub fn call(world: World, number: u64, args: &[u64], store: &mut [u16]) -> Reply
+    ensures { λ r. ⌜ r ≡ callOf world number (now (args .entry)) (now (store .entry)) ⌝ }
+    ensures { λ _. ⌜ now (store .exit) ≡ storeOf world number (now (args .entry)) (now (store .entry)) ⌝ }
+{
+    let g = group(number);
+    if g == 11 {
+        return routing_groups::store_call(world, number, args, store);
+    }
+    plain(world, g, number, args)
+}
+
+// The line at a place of those that print the world, and no call from the last on.
+pub fn table_line(world: World, index: u64, store: &[u16]) -> Answer
+    ensures { λ r. ⌜ r ≡ spoken (lineSaid (worldLines world (now (store .entry))) index) ⌝ }
+{
+    table_lines::table_line(world, index, store)
+}
