@@ -11,6 +11,7 @@ use Rattle.world.specs.declared.Reply.{Reply}
 use Rattle.world.specs.Worlds.{asked}
 use Rattle.table_lines.specs.Loaded.{resetCall, putCountersCall, putRouteCall, putDiscoveryCall, putNeighbourCall, putWaitingCall, setRouteCountCall, setDiscoveryCountCall, setRecordCountCall, setNeighbourCountCall, setWaitingCountCall, setRouteKeyCall, setDiscoveryKeyCall, setRecordKeyCall, setNeighbourKeyCall, setWaitingKeyCall}
 use Rattle.routing_groups.specs.Groups.{askRouting, changeRoutes, changeSearches, storeCall, storeAfter}
+use Rattle.decision_lines.specs.Lines.{clearCall, resolveCall, resolveDefaultCall}
 use Rattle.neighbor_groups.specs.Groups.{askNeighbors, askChildren, listNeighbors, noteNeighbors, changeChildren}
 
 -- The lines that set a state up.
@@ -41,7 +42,7 @@ damageBy w n args =
 
 -- the group of each number, 0 for what is no call here
 unfoldable pub groups : List ℕ
-groups = 9 ∷ 0 ∷ 1 ∷ 9 ∷ 9 ∷ 9 ∷ 11 ∷ 9 ∷ 9 ∷ 2 ∷ 2 ∷ 2 ∷ 1 ∷ 1 ∷ 1 ∷ 1 ∷ 2 ∷ 2 ∷ 2 ∷ 2 ∷ 2 ∷ 3 ∷ 11 ∷ 11 ∷ 3 ∷ 3 ∷ 1 ∷ 11 ∷ 11 ∷ 3 ∷ 3 ∷ 3 ∷ 3 ∷ 4 ∷ 7 ∷ 4 ∷ 4 ∷ 4 ∷ 6 ∷ 6 ∷ 6 ∷ 4 ∷ 4 ∷ 4 ∷ 6 ∷ 5 ∷ 5 ∷ 5 ∷ 8 ∷ 8 ∷ 7 ∷ 8 ∷ 6 ∷ 5 ∷ 8 ∷ 8 ∷ 8 ∷ 5 ∷ 8 ∷ 7 ∷ 5 ∷ 6 ∷ 6 ∷ 7 ∷ 7 ∷ 7 ∷ 7 ∷ 8 ∷ 0 ∷ 0 ∷ 0 ∷ 1 ∷ 1 ∷ 1 ∷ 11 ∷ 10 ∷ 10 ∷ 10 ∷ 10 ∷ 10 ∷ 10 ∷ 10 ∷ 10 ∷ 10 ∷ 10 ∷ 0 ∷ 0 ∷ []
+groups = 9 ∷ 0 ∷ 1 ∷ 9 ∷ 9 ∷ 9 ∷ 11 ∷ 9 ∷ 9 ∷ 2 ∷ 2 ∷ 2 ∷ 1 ∷ 1 ∷ 1 ∷ 1 ∷ 2 ∷ 2 ∷ 2 ∷ 2 ∷ 2 ∷ 3 ∷ 11 ∷ 11 ∷ 3 ∷ 3 ∷ 1 ∷ 11 ∷ 11 ∷ 3 ∷ 3 ∷ 3 ∷ 3 ∷ 4 ∷ 7 ∷ 4 ∷ 4 ∷ 4 ∷ 6 ∷ 6 ∷ 6 ∷ 4 ∷ 4 ∷ 4 ∷ 6 ∷ 5 ∷ 5 ∷ 5 ∷ 8 ∷ 8 ∷ 7 ∷ 8 ∷ 6 ∷ 5 ∷ 8 ∷ 8 ∷ 8 ∷ 5 ∷ 8 ∷ 7 ∷ 5 ∷ 6 ∷ 6 ∷ 7 ∷ 7 ∷ 7 ∷ 7 ∷ 8 ∷ 12 ∷ 12 ∷ 12 ∷ 1 ∷ 1 ∷ 1 ∷ 11 ∷ 10 ∷ 10 ∷ 10 ∷ 10 ∷ 10 ∷ 10 ∷ 10 ∷ 10 ∷ 10 ∷ 10 ∷ 0 ∷ 0 ∷ []
 
 unfoldable pub groupOf : ℕ → ℕ
 groupOf n = getD groups n 0
@@ -61,9 +62,20 @@ callPlain w g n args =
     (cond (eqb g 10) (damageBy w n args)
     (asked w bad))))))))))
 
+-- The decisions, which read the store.
+unfoldable pub decideBy : World → ℕ → List ℕ → List ℕ → Reply
+decideBy w n args store =
+    cond (eqb n 68) (clearCall w args)
+    (cond (eqb n 69) (resolveCall w args store)
+    (cond (eqb n 70) (resolveDefaultCall w args store)
+    (asked w bad)))
+
 -- The call of a number, and the store after it.
 unfoldable pub callOf : World → ℕ → List ℕ → List ℕ → Reply
-callOf w n args store = cond (eqb (groupOf n) 11) (storeCall w n args store) (callPlain w (groupOf n) n args)
+callOf w n args store =
+    cond (eqb (groupOf n) 11) (storeCall w n args store)
+    (cond (eqb (groupOf n) 12) (decideBy w n args store)
+    (callPlain w (groupOf n) n args))
 
 unfoldable pub storeOf : World → ℕ → List ℕ → List ℕ → List ℕ
 storeOf w n args store = cond (eqb (groupOf n) 11) (storeAfter w n args store) store

@@ -6,7 +6,7 @@ ghost use mathlib.Core.Path.{_≡_};
 ghost use Rattle.numbers.specs.Said.{spoken};
 ghost use Rattle.lines.specs.Lines.{lineSaid};
 ghost use Rattle.table_lines.specs.Loaded.{worldLines};
-ghost use Rattle.calls.specs.Groups.{setUp, damageBy, groupOf, callPlain, callOf, storeOf};
+ghost use Rattle.calls.specs.Groups.{setUp, damageBy, groupOf, callPlain, decideBy, callOf, storeOf};
 
 // The group of each number, 0 for what is no call here.
 const GROUPS: [u64; 87] = [
@@ -78,9 +78,9 @@ const GROUPS: [u64; 87] = [
     7,
     7,
     8,
-    0,
-    0,
-    0,
+    12,
+    12,
+    12,
     1,
     1,
     1,
@@ -212,6 +212,23 @@ fn plain(world: World, group: u64, number: u64, args: &[u64]) -> Reply
     world::asked(world, answer)
 }
 
+// The decisions, which read the store.
+fn decide(world: World, number: u64, args: &[u64], store: &[u16]) -> Reply
+    ensures { λ r. ⌜ r ≡ decideBy world number (now (args .entry)) (now (store .entry)) ⌝ }
+{
+    if number == 68 {
+        return decision_lines::clear_end_device_initiator_for_relay(world, args);
+    }
+    if number == 69 {
+        return decision_lines::resolve(world, args, store);
+    }
+    if number == 70 {
+        return decision_lines::resolve_default(world, args, store);
+    }
+    let answer = numbers::no_call();
+    world::asked(world, answer)
+}
+
 // The call of a number. What is no call here leaves the world and the store.
 pub fn call(world: World, number: u64, args: &[u64], store: &mut [u16]) -> Reply
     ensures { λ r. ⌜ r ≡ callOf world number (now (args .entry)) (now (store .entry)) ⌝ }
@@ -220,6 +237,9 @@ pub fn call(world: World, number: u64, args: &[u64], store: &mut [u16]) -> Reply
     let g = group(number);
     if g == 11 {
         return routing_groups::store_call(world, number, args, store);
+    }
+    if g == 12 {
+        return decide(world, number, args, store);
     }
     plain(world, g, number, args)
 }
