@@ -31,7 +31,7 @@ use standard::Status;
 use standard::Update;
 use types::Nwk;
 ghost use mathlib.Core.Path.{_≡_};
-ghost use mathlib.Core.List.{[], _∷_, map};
+ghost use mathlib.Core.List.{_∷_, map};
 ghost use Rattle.numbers.specs.Said.{ok, pushedAll, spoken};
 ghost use Rattle.standard.specs.Numbers.{statusNumber, updateNumbers, dispositionNumbers};
 ghost use Rattle.relay_store.specs.Store.{number, relaysOf};

@@ -1,6 +1,6 @@
 -- How many lines each table has, and how many there are in all.
 -- Assumes nothing.
-use Prim.Native.Nat.{ℕ, suc, min}
+use Prim.Native.Nat.{ℕ, min}
 use mathlib.Core.List.{List}
 use mathlib.Core.Path.{_≡_, ap, _∙_}
 use native.Mathlib.Omega.{arith}

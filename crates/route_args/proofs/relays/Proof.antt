@@ -1,10 +1,10 @@
 -- At each turn the list holds the relays passed, blank after them; at the end it holds those that were to be read.
 -- The measure is the relays left.
-use Prim.Native.Nat.{_+_, _-_, _≤_, _<_}
+use Prim.Native.Nat.{_-_, _≤_}
 use mathlib.Core.List.{map}
 use mathlib.Core.Path.{_≡_, refl, sym, ap, _∙_}
 use native.Mathlib.Omega.{arith}
-use lib.ListN.{take, drop, getD, set}
+use lib.ListN.{take, drop, set}
 use lib.Seq.{getD-drop}
 use denote.Ref.{now}
 use borrow.Author.Needs.{needs}
