@@ -49,7 +49,7 @@ unfolding isSound
 attached-sound child at e h = h
 
 -- what a test picks is well formed where both are
-either : {A : Type 0} (f : A → Neighbors) (b : Bool) (x y : A) → (b ≡ true → WellFormed (f x)) → (b ≡ false → WellFormed (f y)) → WellFormed (f (cond b x y))
+pub either : {A : Type 0} (f : A → Neighbors) (b : Bool) (x y : A) → (b ≡ true → WellFormed (f x)) → (b ≡ false → WellFormed (f y)) → WellFormed (f (cond b x y))
 either f true x y p q = p refl
 either f false x y p q = q refl
 

@@ -35,6 +35,7 @@ use Rattle.neighbors.specs.declared.Neighbors.{Neighbors}
 use Rattle.neighbors.specs.State.{WellFormed, rows, waits}
 use Rattle.children.specs.declared.NwkOutcome.{NwkOutcome}
 use Rattle.children.specs.Calls.{refusedTaken}
+use Rattle.children.proofs.Kept.{either}
 use Rattle.link_status.specs.declared.LinkStatusCommand.{LinkStatusCommand}
 use Rattle.link_status.specs.declared.Tally.{Tally}
 use Rattle.link_status.specs.Statuses.{costsFit, statusesOf, counted, tallied, isLiveAt}
@@ -82,11 +83,6 @@ new-sound name nwk at now lqi ws h = go (lookup waits-entry.waitingKey (nwk .0) 
   go none q = tells-well-formed _ .flag (push-well-formed lqi _ fresh-well-formed)
   go (some e) q = tells-well-formed _ .flag (push-well-formed lqi (e .lqas) (tells-well-formed (e .lqas) .fact (every-lookup waits-entry.isSound waits-entry.waitingKey (nwk .0) ws e h q)))
 
--- what a test picks is well formed where both are
-either : (b : Bool) (x y : NwkOutcome) → (b ≡ true → WellFormed (x .state)) → (b ≡ false → WellFormed (y .state)) → WellFormed (cond b x y .state)
-either true x y p q = p refl
-either false x y p q = q refl
-
 module _ (s : Neighbors) (w : WellFormed s) (own nwk : Nwk) (command : LinkStatusCommand) (now : ℕ) (small : every costsFit (statusesOf command) ≡ true) where
   fit : neighbours.FitRows (rows s)
   fit = table-fit (s .table) (w .table)
@@ -103,7 +99,7 @@ module _ (s : Neighbors) (w : WellFormed s) (own nwk : Nwk) (command : LinkStatu
   admitted-formed name lqi = by (timeSum now 4294967295000) where
     by : (t : Sum) → WellFormed (admittedBy s own name nwk lqi command now t .state)
     by (At at) =
-        either (leb (countWith neighborKey (name .0) (rows s)) 64) (digested s own nwk command now (newRouter name nwk at now (samplesOf nwk lqi (waits s)))) (refusedTaken s NeighborTableFull)
+        either (λ (o : NwkOutcome). o .state) (leb (countWith neighborKey (name .0) (rows s)) 64) (digested s own nwk command now (newRouter name nwk at now (samplesOf nwk lqi (waits s)))) (refusedTaken s NeighborTableFull)
         (λ e. digested-formed (newRouter name nwk at now (samplesOf nwk lqi (waits s))) (new-sound name nwk at now lqi (waits s) (w .pending .sound)) (subst (λ (k : ℕ). countWith neighborKey k (rows s) ≤ 64) (sym (new-key name nwk at now (samplesOf nwk lqi (waits s)))) (leb-true _ _ e)))
         (λ _. w)
     by Past = w

@@ -314,7 +314,7 @@ fn rows_sound(t: NeighborTable) -> bool
 }
 
 // Whether the keys, the entries and the count make a table, whatever the entries say.
-fn formed(t: NeighborTable) -> bool
+pub fn formed(t: NeighborTable) -> bool
     ensures { λ r. ⌜ r ≡ formed64 t ⌝ }
 {
     let n = t.count;

@@ -20,7 +20,7 @@ ghost use Rattle.neighbor_values.specs.Kinds.{deviceTypeOf, relationship
 ghost use Rattle.neighbor_values.specs.Values.{nameNumbers, samplesNumbers, linkNumbers, routerNumbers, neighborNumbers, childNumbers, statusNumbers, childrenNumbers, eui64sNumbers, nwksNumbers, statusesNumbers};
 
 // The smaller of two counts.
-fn at_most(n: usize, most: usize) -> usize
+pub fn at_most(n: usize, most: usize) -> usize
     ensures { λ r. ⌜ r ≡ min n most ⌝ }
 {
     if n < most { n } else { most }

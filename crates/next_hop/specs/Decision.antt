@@ -1,7 +1,7 @@
 -- The decision on the next hop of a unicast: the first of six steps that gives an answer, and what is left where none does.
 -- Document 01, "Decision": "Order: direct mode; forced host route; end device child (not merely any child); concentrator's route to D;
 -- Active route; hint; then discard if discovery is suppressed, else discovery needed."
--- 05-3474, section 3.6.3.3, is the way of a unicast: a child, a route of the table, discovery if it is allowed, and else an end.
+-- 05-3474, the section on a unicast frame (3.6.3.3 and 3.6.4.3 in the Rust's comments): a child, a route of the table, discovery if it is allowed.
 -- Departures of the Rust from it, each a step of its own: `directStep`, `forcedStep` and `hintStep` are wishes of the host, which the standard
 -- has not; `recordStep` goes before `activeStep`, where the standard asks the routing table first; a policy may pass over both.
 -- Assumes nothing.
@@ -25,7 +25,6 @@ use Rattle.route_calls.specs.Answer.{hopAnswer}
 use Rattle.routing.specs.declared.Routing.{Routing}
 use Rattle.routing.specs.declared.RouteToAnswer.{RouteToAnswer}
 use Rattle.routing.specs.declared.RouteToAnswer.the-variants as way
-use Rattle.routing.specs.declared.RouteToOutcome.{RouteToOutcome}
 use Rattle.routing.specs.Records.{routeToCore}
 use Rattle.routing.specs.State as routing
 use Rattle.neighbors.specs.declared.Neighbors.{Neighbors}
@@ -78,7 +77,7 @@ forcedStep h relays (Route StackDecides) = none
 forcedStep h relays (Route (Hint r)) = none
 forcedStep h relays (Route (Force r)) = some (hostRouted h relays r)
 
--- "end device child (not merely any child)"; 05-3474, section 3.6.3.3: a router delivers to its end device child itself
+-- "end device child (not merely any child)"; 05-3474, section 3.6.4.3: a router delivers to its end device child itself
 abbrev pub childStep : Neighbors → NwkHeader → Option ResolveOutcome
 childStep n h = cond (isEndDeviceChild n (h .destination)) (some (hopTo h (h .destination))) none
 
@@ -102,7 +101,7 @@ fromHop h active.NoRoute = none
 fromHop h (active.Hop n) = some (hopTo h n)
 fromHop h active.Unknown = some (refusedWith h UnknownNextHop)
 
--- "Active route"; 05-3474, section 3.6.3.3: the next hop of the routing table entry; "Force-discovery skips the two table steps only."
+-- "Active route"; 05-3474, section 3.6.4.3: the next hop of the routing table entry; "Force-discovery skips the two table steps only."
 unfoldable pub activeStep : Routing → NwkHeader → Policy → Option ResolveOutcome
 activeStep r h p = cond (p .«force_route_discovery») none (fromHop h (hopAnswer (hopAt (h .destination .0) (rowsOf (r .«route_table»)))))
 

@@ -1,3 +1,4 @@
 pub mod Decision
 pub mod Tails
 pub mod Numbers
+pub mod Kept

@@ -93,19 +93,6 @@ pub all-within : (confirm : Bool) (list : List Eui64) (x : Settling) (i : ℕ) �
 all-within confirm [] x i h = h .fit
 all-within confirm (a ∷ rest) x i h = all-within confirm rest (settleOne confirm a x) (i + 1) (step-within confirm a x i h)
 
--- the next address of the list
-module _ (xs : List Eui64) (n i : ℕ) (fits : n ≤ length xs) where
-  as-long : length (take n xs) ≡ n
-  as-long = length-take-le n xs fits
-
-  pub next-address : (d : Eui64) → i < n → drop i (take n xs) ≡ getD xs i d ∷ drop (i + 1) (take n xs)
-  next-address d h =
-      rest-step (take n xs) i d (omega (arith, as-long))
-      ∙ ap (λ (a : Eui64). a ∷ drop (i + 1) (take n xs)) (getD-take n xs i d h)
-
-  pub no-address : n ≤ i → drop i (take n xs) ≡ []
-  no-address h = rest-done (take n xs) i (omega (arith, as-long))
-
 -- what a step asks of the arrays
 pub ready : (s : Settled) (x : Settling) (i : ℕ) → s ≡ packed x → Within i x → i < 64 → Formed64 (s .table) × (s .claimed .count < 64) × (s .removed .count < 64)
 unfolding euiList childList

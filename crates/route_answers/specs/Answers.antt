@@ -33,6 +33,8 @@ use Rattle.routing.specs.declared.CheckOutcome.{CheckOutcome}
 use Rattle.routing.specs.declared.CheckOutcome.the-variants as check
 use Rattle.routing.specs.declared.RouteToAnswer.{RouteToAnswer}
 use Rattle.routing.specs.declared.RouteToAnswer.the-variants as way
+use Rattle.routing.specs.declared.RecordAtAnswer.{RecordAtAnswer}
+use Rattle.routing.specs.declared.RecordAtAnswer.the-variants as record-at
 use Rattle.route_answers.specs.Values.{relayNumbers, statusNumbers, deadlineNumbers, checkNumbers, routeLookedNumbers, discoveryLookedNumbers}
 
 -- drop 0, established 1, relay 2 with hop and cost; then the update
@@ -100,3 +102,9 @@ waySaid (way.Refused why) l = refusedBy why
 waySaid way.NoRoute l = ok (0 ∷ [])
 waySaid (way.NextHop n) l = ok (1 ∷ n .0 ∷ [])
 waySaid way.SourceRoute l = ok (2 ∷ relayNumbers l)
+
+-- no record 0; a record 1, its destination and its relays
+abbrev pub recordAtSaid : RecordAtAnswer → RelayList → Said
+recordAtSaid (record-at.Refused why) l = refusedBy why
+recordAtSaid record-at.Missing l = ok (0 ∷ [])
+recordAtSaid (record-at.Found e) l = ok (1 ∷ e .destination .0 ∷ relayNumbers l)

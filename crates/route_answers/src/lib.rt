@@ -16,6 +16,8 @@ use routing::CountOutcome;
 use routing::DeadlineOutcome;
 use routing::DiscoveryAtOutcome;
 use routing::HopOutcome;
+use routing::RecordAtAnswer;
+use routing::RecordAtOutcome;
 use routing::RouteAtOutcome;
 use routing::RouteToAnswer;
 use routing::RouteToOutcome;
@@ -27,13 +29,14 @@ use standard::RouteEntry;
 use standard::RouteReplyDisposition;
 use standard::Status;
 use standard::Update;
+use types::Nwk;
 ghost use mathlib.Core.Path.{_≡_};
 ghost use mathlib.Core.List.{[], _∷_, map};
 ghost use Rattle.numbers.specs.Said.{ok, pushedAll, spoken};
 ghost use Rattle.standard.specs.Numbers.{statusNumber, updateNumbers, dispositionNumbers};
 ghost use Rattle.relay_store.specs.Store.{number, relaysOf};
 ghost use Rattle.route_answers.specs.Values.{routeNumbers, discoveryNumbers, relayNumbers, statusNumbers, deadlineNumbers, checkNumbers, routeLookedNumbers, discoveryLookedNumbers};
-ghost use Rattle.route_answers.specs.Answers.{statusSaid, hopSaid, deadlineSaid, countSaid, routeAtSaid, discoveryAtSaid, checkSaid, toldSaid, doneSaid, replySaid, requestSaid, beginSaid, recordSaid, waySaid};
+ghost use Rattle.route_answers.specs.Answers.{statusSaid, hopSaid, deadlineSaid, countSaid, routeAtSaid, discoveryAtSaid, checkSaid, toldSaid, doneSaid, replySaid, requestSaid, beginSaid, recordSaid, waySaid, recordAtSaid};
 
 // A status as its number.
 pub fn status_number(s: Status) -> u64
@@ -365,6 +368,32 @@ pub fn way_answer(o: RouteToOutcome) -> Answer
         RouteToAnswer::SourceRoute => {
             let l = o.relays;
             say_relays(2, l)
+        }
+    }
+}
+
+// A route record's numbers after a first one: its destination and its relays.
+pub fn record_values(first: u64, destination: Nwk, l: RelayList) -> Answer
+    ensures { λ r. ⌜ r ≡ spoken (ok (first ∷ destination .0 ∷ relayNumbers l)) ⌝ }
+{
+    let n = numbers::none();
+    let m = numbers::push(n, first);
+    let k = numbers::push(m, destination.0 as u64);
+    numbers::answered(push_relays(k, l))
+}
+
+// The route record at a place.
+pub fn record_at_answer(o: RecordAtOutcome) -> Answer
+    ensures { λ r. ⌜ r ≡ spoken (recordAtSaid (o .answer) (o .relays)) ⌝ }
+{
+    let answer = o.answer;
+    match answer {
+        RecordAtAnswer::Refused(why) => numbers::refused(why),
+        RecordAtAnswer::Missing => numbers::said(&[0]),
+        RecordAtAnswer::Found(e) => {
+            let l = o.relays;
+            let destination = e.destination;
+            record_values(1, destination, l)
         }
     }
 }

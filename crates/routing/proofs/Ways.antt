@@ -1,6 +1,5 @@
 -- The relays beside an answer of the route query, and of the record at a place, are blank unless the answer is the one that names them.
 use Prim.Native.Nat.{ℕ}
-use mathlib.Core.Bool.{Bool, true, false, cond}
 use mathlib.Core.List.{List, []}
 use mathlib.Core.Option.{Option, none, some}
 use mathlib.Core.Path.{_≡_, refl}
@@ -22,6 +21,7 @@ use Rattle.routing.specs.declared.RecordAtOutcome.{RecordAtOutcome}
 use Rattle.routing.specs.Records.{wayIn, routeTo, rowIn}
 use Rattle.routing.specs.Records as exported
 use Rattle.routing.specs.State.{wellFormed}
+use Rattle.routing.proofs.Kept.{by-test}
 
 -- the answers that name relays
 abbrev pub NamesRelays : RouteToAnswer → Type 0
@@ -35,11 +35,6 @@ IsFound (record-at.Found e) = Unit {0}
 IsFound record-at.Missing = ⊥
 IsFound (record-at.Refused n) = ⊥
 
--- by either side of a test
-by-test : {A : Type 0} (P : A → Type 0) (b : Bool) (x y : A) → P x → P y → P (cond b x y)
-by-test P true x y p q = p
-by-test P false x y p q = q
-
 abbrev pub BlankWay : RouteToOutcome → Type 0
 BlankWay o = (NamesRelays (o .answer) → ⊥) → o .relays ≡ relayList []
 
@@ -49,15 +44,15 @@ BlankAt o = (IsFound (o .answer) → ⊥) → o .relays ≡ relayList []
 way-blank : (s : Routing) (d : Nwk) (limit : ℕ) (x : Option RouteRecord) → BlankWay (wayIn s d (listed (wayBy limit x)))
 way-blank s d limit none = λ _. refl
 way-blank s d limit (some x) =
-    by-test (λ (w : Way). BlankWay (wayIn s d (listed w))) (eqb (length (x .relays)) 0) _ _ (λ _. refl)
-    (by-test (λ (w : Way). BlankWay (wayIn s d (listed w))) (ltb (length (x .relays)) limit) _ _ (λ no. absurd (no tt)) (λ _. refl))
+    by-test (λ (w : Way). BlankWay (wayIn s d (listed w))) (eqb (length (x .relays)) 0) _ _ (λ _ _. refl)
+    (by-test (λ (w : Way). BlankWay (wayIn s d (listed w))) (ltb (length (x .relays)) limit) _ _ (λ _ no. absurd (no tt)) (λ _. refl))
 
 -- the route query names relays only beside a source route
 pub route-to-blank : (s : Routing) (d : Nwk) (limit : ℕ) (store : List ℕ) → BlankWay (routeTo s d limit store)
 unfolding routeTo wayTo
 route-to-blank s d limit store =
     by-test BlankWay (wellFormed s) _ _
-    (by-test BlankWay (agrees (s .«route_record_table») store) _ _ (way-blank s d limit (recordAt d (s .«route_record_table») store)) (λ _. refl))
+    (λ _. by-test BlankWay (agrees (s .«route_record_table») store) _ _ (λ _. way-blank s d limit (recordAt d (s .«route_record_table») store)) (λ _. refl))
     (λ _. refl)
 
 row-blank : (x : Option RouteRecord) → BlankAt (rowIn (rowFor x))
@@ -69,5 +64,5 @@ pub record-at-blank : (s : Routing) (place : ℕ) (store : List ℕ) → BlankAt
 unfolding exported.recordAt recordHeld
 record-at-blank s place store =
     by-test BlankAt (wellFormed s) _ _
-    (by-test BlankAt (agrees (s .«route_record_table») store) _ _ (row-blank (entryAt place (recordsOf (s .«route_record_table») store))) (λ _. refl))
+    (λ _. by-test BlankAt (agrees (s .«route_record_table») store) _ _ (λ _. row-blank (entryAt place (recordsOf (s .«route_record_table») store))) (λ _. refl))
     (λ _. refl)

@@ -6,7 +6,7 @@ use Prim.Native.Nat.{ℕ, suc, _+_, _-_, _*_}
 use mathlib.Core.Bool.{Bool, cond, _&&_, _||_}
 use mathlib.Core.List.{List, [], _∷_, replicate}
 use lib.Dec.{eqb, leb, ltb}
-use lib.ListN.{getD, set, drop}
+use lib.ListN.{getD, set}
 use Rattle.script.specs.declared.Scan.{Scan}
 use Rattle.script.specs.declared.Line.{Line}
 use Rattle.script.specs.declared.Line.the-variants.{Passed, Call, Bad}

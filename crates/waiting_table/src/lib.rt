@@ -111,7 +111,7 @@ fn rows_sound(t: WaitingTable) -> bool
 }
 
 // Whether the keys, the entries and the count make a table, whatever the entries say.
-fn formed(t: WaitingTable) -> bool
+pub fn formed(t: WaitingTable) -> bool
     ensures { λ r. ⌜ r ≡ formed64 t ⌝ }
 {
     let n = t.count;

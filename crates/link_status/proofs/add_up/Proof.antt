@@ -12,7 +12,8 @@ use Rattle.neighbor_queries.specs.declared.LinkStatus.{LinkStatus}
 use Rattle.neighbor_table.specs.Table.{rowsOf}
 use Rattle.neighbor_table.specs.declared.NeighborLookup.{NeighborLookup}
 use Rattle.neighbors.proofs.Checked.{found-fits}
-use Rattle.link_status.proofs.Lists.{next-status, no-status, fit-at}
+use Rattle.neighbor_queries.proofs.Given.{next-given, none-given}
+use Rattle.link_status.proofs.Lists.{fit-at}
 use Rattle.neighbor_queries.specs.Lists.{noStatus}
 use Rattle.link_status.specs.Statuses.{isLiveAt, statusesOf, counted, tallied}
 use Rattle.link_status.proofs.add_up.Statement.{statement}
@@ -61,7 +62,7 @@ loop-again c =
     let left = drop (v .i + 1) (statusesOf (s .args .t3)) in (
       search needs,
       ap (tallied own live left) (c .count-one .ensures ∙ ap (λ (b : Bool). counted own b (getD (s .args .t3 .statuses) (v .i) noStatus) (v .x)) (ap (λ (l : NeighborLookup). l .found) (c .before .first-fitting .ensures) ∙ found-fits _ _))
-          ∙ sym (ap (λ (l : List LinkStatus). tallied own live l (v .x)) (next-status (s .args .t3 .statuses) (s .args .t3 .count) (v .i) (omega (arith, s .pre .1, long s)) noStatus (search needs)))
+          ∙ sym (ap (λ (l : List LinkStatus). tallied own live l (v .x)) (next-given (s .args .t3 .statuses) (s .args .t3 .count) (v .i) (omega (arith, s .pre .1, long s)) noStatus (search needs)))
           ∙ v .inv .1,
     )
 
@@ -69,7 +70,7 @@ returns : tie.Need-returns Inv-loop μ-loop
 returns c =
     let v = c .before .loop in
     let s = c .before .before in
-    sym (ap (λ (l : List LinkStatus). tallied (s .args .own) (isLiveAt (rowsOf (s .args .t))) l (v .x)) (no-status (s .args .t3 .statuses) (s .args .t3 .count) (v .i) (omega (arith, s .pre .1, long s)) (search needs)))
+    sym (ap (λ (l : List LinkStatus). tallied (s .args .own) (isLiveAt (rowsOf (s .args .t))) l (v .x)) (none-given (s .args .t3 .statuses) (s .args .t3 .count) (v .i) (omega (arith, s .pre .1, long s)) (search needs)))
     ∙ v .inv .1
 
 pub add-up-spec : {M : Type 1} → statement M

@@ -9,7 +9,7 @@ use native.Mathlib.Omega.{arith}
 use Rattle.flat_map.proofs.Every.{every-here, every-not, every-done}
 use Rattle.flat_map.proofs.Shift.{unmapped}
 use Rattle.flat_map.specs.Table.{every}
-use Rattle.link_status.proofs.Lists.{next-status, no-status}
+use Rattle.neighbor_queries.proofs.Given.{next-given, none-given}
 use Rattle.link_status.specs.Statuses.{costsFit, statusesOf}
 use Rattle.link_status.proofs.all_costs_fit.Statement.{statement}
 use Rattle.link_status.proofs.all_costs_fit.Tie as tie
@@ -40,7 +40,7 @@ returns : tie.Need-returns Inv-loop μ-loop
 returns c =
     let v = c .before .before .before .before .loop in
     let s = c .before .before .before .before .before in
-    sym (every-not costsFit (next-status (s .args .t1 .statuses) (s .args .t1 .count) (v .i) (omega (arith, s .pre, long s)) _ (search needs)) (sym (c .before .costs-fit .ensures) ∙ not-true _ (c .if1 .taken))) ∙ v .inv .1
+    sym (every-not costsFit (next-given (s .args .t1 .statuses) (s .args .t1 .count) (v .i) (omega (arith, s .pre, long s)) _ (search needs)) (sym (c .before .costs-fit .ensures) ∙ not-true _ (c .if1 .taken))) ∙ v .inv .1
 
 add-i : tie.Need-add-i Inv-loop μ-loop
 add-i c = search needs
@@ -52,13 +52,13 @@ loop-again : tie.Need-loop-again Inv-loop μ-loop
 loop-again c =
     let v = c .before .before .before .before .loop in
     let s = c .before .before .before .before .before in
-    (search needs, sym (every-here costsFit (next-status (s .args .t1 .statuses) (s .args .t1 .count) (v .i) (omega (arith, s .pre, long s)) _ (search needs)) (sym (c .before .costs-fit .ensures) ∙ not-false _ (c .if1 .left))) ∙ v .inv .1)
+    (search needs, sym (every-here costsFit (next-given (s .args .t1 .statuses) (s .args .t1 .count) (v .i) (omega (arith, s .pre, long s)) _ (search needs)) (sym (c .before .costs-fit .ensures) ∙ not-false _ (c .if1 .left))) ∙ v .inv .1)
 
 returns-2 : tie.Need-returns-2 Inv-loop μ-loop
 returns-2 c =
     let v = c .before .loop in
     let s = c .before .before in
-    sym (every-done costsFit (no-status (s .args .t1 .statuses) (s .args .t1 .count) (v .i) (omega (arith, s .pre, long s)) (search needs))) ∙ v .inv .1
+    sym (every-done costsFit (none-given (s .args .t1 .statuses) (s .args .t1 .count) (v .i) (omega (arith, s .pre, long s)) (search needs))) ∙ v .inv .1
 
 pub all-costs-fit-spec : {M : Type 1} → statement M
 all-costs-fit-spec =

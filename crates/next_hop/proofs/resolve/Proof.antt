@@ -24,7 +24,7 @@ well-formed-requires-2 c κs = search needs
 refuse-requires : tie.Need-refuse-requires
 refuse-requires c κs = search needs
 
--- what the tests of the states, of the store and of the lists showed
+-- what the tests of the states and of the store showed
 good : (c : tie.Else1) → (routes.wellFormed (c .before .before .before .before .args .routing) && neighbours.wellFormed (c .before .before .before .before .args .neighbors)) ≡ true
 good c = rw (c .before .well-formed2 .ensures, c .before .before .well-formed .ensures) at (not-false (c .before .before .well-formed .result && c .before .well-formed2 .result) (c .if1 .left))
 

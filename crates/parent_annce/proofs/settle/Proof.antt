@@ -10,7 +10,8 @@ use Rattle.flat_map.proofs.Shift.{unmapped}
 use Rattle.neighbor_table.proofs.Rows.{table-view, table-fit}
 use Rattle.neighbor_table.specs.Table.{rowsOf}
 use Rattle.types.specs.declared.Eui64.{Eui64}
-use Rattle.parent_annce.proofs.Steps.{Settles, step-within, step-packed, next-address, no-address, ready}
+use Rattle.neighbor_queries.proofs.Given.{next-given, none-given}
+use Rattle.parent_annce.proofs.Steps.{Settles, step-within, step-packed, ready}
 use Rattle.parent_annce.specs.Settle.{start, settleAll, settleOne, packed, stepped, settled}
 use Rattle.parent_annce.specs.declared.Settled.{Settled}
 use Rattle.parent_annce.proofs.settle.Statement.{statement}
@@ -66,7 +67,7 @@ loop-again c =
     let v = c .before .before .before .loop in
     let s = c .before .before .before .before .before .before in
     let xs = s .args .t3 .addresses in
-    let next = next-address xs (s .args .t3 .count) (v .i) (omega (arith, s .pre .1, long s)) _ (omega arith) in
+    let next = next-given xs (s .args .t3 .count) (v .i) (omega (arith, s .pre .1, long s)) _ (omega arith) in
     record {
       now = settleOne (s .args .confirm) _ (v .inv .now);
       is = c .step .ensures ∙ ap (stepped (s .args .confirm) _) (v .inv .is) ∙ step-packed (s .args .confirm) _ (v .inv .now) (v .i) (v .inv .within) (omega (arith, s .pre .1));
@@ -80,7 +81,7 @@ unfolding settled
 returns c =
     let v = c .before .loop in
     let s = c .before .before .before .before in
-    let none = no-address (s .args .t3 .addresses) (s .args .t3 .count) (v .i) (omega (arith, s .pre .1, long s)) (omega arith) in
+    let none = none-given (s .args .t3 .addresses) (s .args .t3 .count) (v .i) (omega (arith, s .pre .1, long s)) (omega arith) in
     v .inv .is ∙ ap packed (sym (ap (λ (l : List Eui64). settleAll (s .args .confirm) l (v .inv .now)) none) ∙ v .inv .rest)
 
 pub settle-spec : {M : Type 1} → statement M

@@ -1,0 +1,53 @@
+-- Each value is put after those before it.
+use borrow.Author.Needs.{needs}
+use Rattle.header_numbers.proofs.push_control.Statement.{statement}
+use Rattle.header_numbers.proofs.push_control.Tie as tie
+
+push-frame-type-requires : tie.Need-push-frame-type-requires
+push-frame-type-requires c κs = search needs
+
+push-byte-requires : tie.Need-push-byte-requires
+push-byte-requires c κs = search needs
+
+push-discovery-requires : tie.Need-push-discovery-requires
+push-discovery-requires c κs = search needs
+
+push-bit-requires : tie.Need-push-bit-requires
+push-bit-requires c κs = search needs
+
+push-bit-requires-2 : tie.Need-push-bit-requires-2
+push-bit-requires-2 c κs = search needs
+
+push-bit-requires-3 : tie.Need-push-bit-requires-3
+push-bit-requires-3 c κs = search needs
+
+push-bit-requires-4 : tie.Need-push-bit-requires-4
+push-bit-requires-4 c κs = search needs
+
+push-bit-requires-5 : tie.Need-push-bit-requires-5
+push-bit-requires-5 c κs = search needs
+
+push-bit-requires-6 : tie.Need-push-bit-requires-6
+push-bit-requires-6 c κs = search needs
+
+push-byte-requires-2 : tie.Need-push-byte-requires-2
+push-byte-requires-2 c κs = search needs
+
+returns : tie.Need-returns
+returns c = rw (c .push-byte2 .ensures, c .before .push-bit6 .ensures, c .before .before .push-bit5 .ensures, c .before .before .before .push-bit4 .ensures, c .before .before .before .before .push-bit3 .ensures, c .before .before .before .before .before .push-bit2 .ensures, c .before .before .before .before .before .before .push-bit .ensures, c .before .before .before .before .before .before .before .push-discovery .ensures, c .before .before .before .before .before .before .before .before .push-byte .ensures, c .before .before .before .before .before .before .before .before .before .push-frame-type .ensures)
+
+pub push-control-spec : {M : Type 1} → statement M
+push-control-spec =
+    tie.close
+    (tie.spec
+    push-frame-type-requires
+    push-byte-requires
+    push-discovery-requires
+    push-bit-requires
+    push-bit-requires-2
+    push-bit-requires-3
+    push-bit-requires-4
+    push-bit-requires-5
+    push-bit-requires-6
+    push-byte-requires-2
+    returns)

@@ -1,0 +1,44 @@
+-- A table that is not formed and one with no room are told; else the entry is put.
+use mathlib.Core.Path.{_∙_, sym}
+use borrow.Author.Tests.{not-true, not-false, leb-true}
+use Rattle.neighbor_table.proofs.Rows.{formed-told}
+use Rattle.neighbor_loads.specs.Loads.{neighborPut}
+use borrow.Author.Needs.{needs}
+use Rattle.neighbor_loads.proofs.load_neighbor.Statement.{statement}
+use Rattle.neighbor_loads.proofs.load_neighbor.Tie as tie
+
+formed-requires : tie.Need-formed-requires
+formed-requires c κs = search needs
+
+unload-requires : tie.Need-unload-requires
+unload-requires c κs = search needs
+
+returns : tie.Need-returns
+unfolding neighborPut
+returns c = rw (sym (c .before .before .formed .ensures) ∙ not-true _ (c .before .if1 .taken)) (c .unload .ensures)
+
+has-room-requires : tie.Need-has-room-requires
+has-room-requires c κs = formed-told _ .fact (sym (c .before .before .formed .ensures) ∙ not-false _ (c .before .if1 .left))
+
+unload-requires-2 : tie.Need-unload-requires-2
+unload-requires-2 c κs = search needs
+
+returns-2 : tie.Need-returns-2
+unfolding neighborPut
+returns-2 c = rw (sym (c .before .before .before .before .before .formed .ensures) ∙ not-false _ (c .before .before .before .before .if1 .left), sym (c .before .before .has-room .ensures) ∙ not-true _ (c .before .if2 .taken)) (c .unload2 .ensures)
+
+put-requires : tie.Need-put-requires
+put-requires c κs = (formed-told _ .fact (sym (c .before .before .before .before .formed .ensures) ∙ not-false _ (c .before .before .before .if1 .left)), leb-true _ _ (sym (c .before .has-room .ensures) ∙ not-false _ (c .if2 .left)))
+
+with-neighbor-table-requires : tie.Need-with-neighbor-table-requires
+with-neighbor-table-requires c κs = search needs
+
+load-requires : tie.Need-load-requires
+load-requires c κs = search needs
+
+returns-3 : tie.Need-returns-3
+unfolding neighborPut
+returns-3 c = rw (sym (c .before .before .before .before .before .before .before .formed .ensures) ∙ not-false _ (c .before .before .before .before .before .before .if1 .left), sym (c .before .before .before .before .has-room .ensures) ∙ not-false _ (c .before .before .before .if2 .left)) (c .load .ensures ∙ rw (c .before .with-neighbor-table .ensures, c .before .before .put .ensures))
+
+pub load-neighbor-spec : {M : Type 1} → statement M
+load-neighbor-spec = tie.close (tie.spec formed-requires unload-requires returns has-room-requires unload-requires-2 returns-2 put-requires with-neighbor-table-requires load-requires returns-3)

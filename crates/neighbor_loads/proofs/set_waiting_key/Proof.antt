@@ -1,0 +1,39 @@
+-- A place past the last is told; else the key is set.
+use mathlib.Core.Path.{_∙_}
+use borrow.Author.Tests.{le-leb, lt-leb}
+use Rattle.neighbor_loads.specs.Loads.{setWaitingKey}
+use borrow.Author.Needs.{needs}
+use Rattle.neighbor_loads.proofs.set_waiting_key.Statement.{statement}
+use Rattle.neighbor_loads.proofs.set_waiting_key.Tie as tie
+
+at-requires : tie.Need-at-requires
+at-requires c κs = search needs
+
+at-requires-2 : tie.Need-at-requires-2
+at-requires-2 c κs = search needs
+
+unload-requires : tie.Need-unload-requires
+unload-requires c κs = search needs
+
+returns : tie.Need-returns
+unfolding setWaitingKey
+returns c = rw (← c .before .before .before .at .ensures, le-leb 64 (c .before .before .before .at .result) (c .before .if1 .taken)) (c .unload .ensures)
+
+mul-t : tie.Need-mul-t
+mul-t c = search needs
+
+element-write-t : tie.Need-element-write-t
+element-write-t c = search needs
+
+with-waiting-table-requires : tie.Need-with-waiting-table-requires
+with-waiting-table-requires c κs = search needs
+
+load-requires : tie.Need-load-requires
+load-requires c κs = search needs
+
+returns-2 : tie.Need-returns-2
+unfolding setWaitingKey
+returns-2 c = rw (← c .before .before .before .before .before .at .ensures, ← c .before .before .before .before .at2 .ensures, lt-leb 64 (c .before .before .before .before .before .at .result) (c .before .before .before .if1 .left)) (c .load .ensures ∙ rw (c .before .with-waiting-table .ensures))
+
+pub set-waiting-key-spec : {M : Type 1} → statement M
+set-waiting-key-spec = tie.close (tie.spec at-requires at-requires-2 unload-requires returns mul-t element-write-t with-waiting-table-requires load-requires returns-2)

@@ -1,0 +1,39 @@
+-- A place past the last is told; else the key is set.
+use mathlib.Core.Path.{_∙_}
+use borrow.Author.Tests.{le-leb, lt-leb}
+use Rattle.route_loads.specs.Loads.{setDiscoveryKey}
+use borrow.Author.Needs.{needs}
+use Rattle.route_loads.proofs.set_discovery_key.Statement.{statement}
+use Rattle.route_loads.proofs.set_discovery_key.Tie as tie
+
+at-requires : tie.Need-at-requires
+at-requires c κs = search needs
+
+at-requires-2 : tie.Need-at-requires-2
+at-requires-2 c κs = search needs
+
+unload-requires : tie.Need-unload-requires
+unload-requires c κs = search needs
+
+returns : tie.Need-returns
+unfolding setDiscoveryKey
+returns c = rw (← c .before .before .before .at .ensures, le-leb 32 (c .before .before .before .at .result) (c .before .if1 .taken)) (c .unload .ensures)
+
+mul-t : tie.Need-mul-t
+mul-t c = search needs
+
+element-write-t : tie.Need-element-write-t
+element-write-t c = search needs
+
+with-discovery-table-requires : tie.Need-with-discovery-table-requires
+with-discovery-table-requires c κs = search needs
+
+load-requires : tie.Need-load-requires
+load-requires c κs = search needs
+
+returns-2 : tie.Need-returns-2
+unfolding setDiscoveryKey
+returns-2 c = rw (← c .before .before .before .before .before .at .ensures, ← c .before .before .before .before .at2 .ensures, lt-leb 32 (c .before .before .before .before .before .at .result) (c .before .before .before .if1 .left)) (c .load .ensures ∙ rw (c .before .with-discovery-table .ensures))
+
+pub set-discovery-key-spec : {M : Type 1} → statement M
+set-discovery-key-spec = tie.close (tie.spec at-requires at-requires-2 unload-requires returns mul-t element-write-t with-discovery-table-requires load-requires returns-2)
