@@ -1,6 +1,6 @@
 // The world as an image of numbers: read, judged, and written.
 mod good;
-mod store;
+pub mod store;
 
 use neighbors::Neighbors;
 use routing::Routing;

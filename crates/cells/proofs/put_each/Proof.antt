@@ -6,7 +6,6 @@ use lib.ListN.{length, drop, length-set, drop-of-length-le}
 use lib.Seq.{sets}
 use Rattle.cells.proofs.Writing.{put-one, put-past}
 use borrow.Author.Needs.{needs}
-use native.Mathlib.Omega.{arith}
 use Rattle.cells.proofs.put_each.Statement.{statement}
 use Rattle.cells.proofs.put_each.Tie as tie
 

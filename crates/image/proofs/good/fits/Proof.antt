@@ -8,7 +8,6 @@ use Rattle.image.specs.Good.{within}
 use Rattle.image.proofs.Within.{within-next, within-done}
 use native.Mathlib.Nat.{mod-lt}
 use borrow.Author.Needs.{needs}
-use native.Mathlib.Omega.{arith}
 use Rattle.image.proofs.good.fits.Statement.{statement}
 use Rattle.image.proofs.good.fits.Tie as tie
 
