@@ -1,0 +1,78 @@
+-- What is written is read back: numbers, flags, keys and rows, wherever they stand.
+-- Each law is over what stands from a place on, so that it holds in any image.
+-- Assumes nothing.
+use Prim.Native.Nat.{ℕ, _+_, _*_, _%_, _<_}
+use mathlib.Core.Bool.{Bool, true, false, not}
+use mathlib.Core.List.{List, [], _∷_, _++_, append-assoc, flatMap}
+use mathlib.Core.Path.{_≡_, refl, sym, ap, ap₂, _∙_}
+use native.Mathlib.Nat.{add-mul, one-mul, zero-mul, add-zero, mod-eq-of-lt}
+use native.Mathlib.Omega.{arith}
+use lib.Dec.{eqb}
+use lib.ListN.{length, drop, getD}
+use lib.Seq.{getD-drop, drop-drop, drop-at}
+use Rattle.numbers.specs.Read.{numberAt}
+use Rattle.numbers.specs.Said.{flagNumber}
+use Rattle.cells.specs.Listed.{listed, keysAt}
+
+-- every element of a list is so
+pub data Each {E : Type 0} (P : E → Type 0) : List E → Type 0 where
+  none : Each P []
+  one : {e : E} {es : List E} → P e → Each P es → Each P (e ∷ es)
+
+-- the number at a place, where it is known what stands from an earlier place on
+pub there : (xs ys : List ℕ) (b k : ℕ) → drop b xs ≡ ys → numberAt xs (b + k) ≡ getD ys k 0
+there xs ys b k h = sym (getD-drop b xs k 0) ∙ ap (λ (l : List ℕ). getD l k 0) h
+
+pub first-there : (xs ys : List ℕ) (b : ℕ) → drop b xs ≡ ys → numberAt xs b ≡ getD ys 0 0
+first-there xs ys b h = ap (numberAt xs) (sym (add-zero b)) ∙ there xs ys b 0 h
+
+-- a number that fits its field is not cut
+pub cut-back : {n m : ℕ} (k : ℕ) → n ≡ m → m < k → n % k ≡ m
+cut-back k e h = ap (λ (n : ℕ). n % k) e ∙ mod-eq-of-lt h
+
+pub flag-back : {n : ℕ} (b : Bool) → n ≡ flagNumber b → not (eqb n 0) ≡ b
+flag-back true e = ap (λ (n : ℕ). not (eqb n 0)) e
+flag-back false e = ap (λ (n : ℕ). not (eqb n 0)) e
+
+-- what stands after a first part
+pub after : (p q xs : List ℕ) (b w : ℕ) → drop b xs ≡ p ++ q → length p ≡ w → drop (b + w) xs ≡ q
+after p q xs b w h l = sym (drop-drop w b xs) ∙ ap (drop w) h ∙ drop-at p q w l
+
+keys-from : (ks xs rest : List ℕ) (b i : ℕ) → drop (b + i) xs ≡ ks ++ rest → listed (λ k. numberAt xs (b + k)) i (length ks) ≡ ks
+unfolding listed
+keys-from [] xs rest b i h = refl
+keys-from (k ∷ ks) xs rest b i h =
+    let s : b + (i + 1) ≡ b + i + 1 = omega arith in
+    ap₂ (λ (x : ℕ) (l : List ℕ). x ∷ l)
+    (first-there xs (k ∷ ks ++ rest) (b + i) h)
+    (keys-from ks xs rest b (i + 1) (ap (λ (m : ℕ). drop m xs) s ∙ after (k ∷ []) (ks ++ rest) xs (b + i) 1 h refl))
+
+pub keys-back : (ks xs rest : List ℕ) (b n : ℕ) → drop b xs ≡ ks ++ rest → length ks ≡ n → keysAt xs b n ≡ ks
+unfolding keysAt
+keys-back ks xs rest b n h l =
+    ap (listed (λ k. numberAt xs (b + k)) 0) (sym l) ∙ keys-from ks xs rest b 0 (ap (λ (m : ℕ). drop m xs) (add-zero b) ∙ h)
+
+-- rows of w numbers each, of elements that are read back one by one
+module _ {E : Type 0} (g : E → List ℕ) (w : ℕ) (r : List ℕ → ℕ → E) (P : E → Type 0) (sized : (e : E) → length (g e) ≡ w) (back : (e : E) (xs rest : List ℕ) (b : ℕ) → drop b xs ≡ g e ++ rest → P e → r xs b ≡ e) where
+  rows-from : (es : List E) (xs rest : List ℕ) (b i : ℕ) → drop (b + i * w) xs ≡ flatMap g es ++ rest → Each P es → listed (λ k. r xs (b + k * w)) i (length es) ≡ es
+  unfolding listed flatMap
+  rows-from [] xs rest b i h a = refl
+  rows-from (e ∷ es) xs rest b i h (one p a) =
+      let s : b + (i + 1) * w ≡ b + i * w + w = simp (add-mul, one-mul) (omega arith) in
+      let h′ : drop (b + i * w) xs ≡ g e ++ (flatMap g es ++ rest) = h ∙ append-assoc (g e) (flatMap g es) rest in
+      ap₂ (λ (x : E) (l : List E). x ∷ l)
+      (back e xs (flatMap g es ++ rest) (b + i * w) h′ p)
+      (rows-from es xs rest b (i + 1) (ap (λ (m : ℕ). drop m xs) s ∙ after (g e) (flatMap g es ++ rest) xs (b + i * w) w h′ (sized e)) a)
+
+  pub rows-back : (es : List E) (xs rest : List ℕ) (b n : ℕ) → drop b xs ≡ flatMap g es ++ rest → length es ≡ n → Each P es → listed (λ k. r xs (b + k * w)) 0 n ≡ es
+  rows-back es xs rest b n h l a =
+      let s : b + 0 * w ≡ b = simp zero-mul (omega arith) in
+      ap (listed (λ k. r xs (b + k * w)) 0) (sym l) ∙ rows-from es xs rest b 0 (ap (λ (m : ℕ). drop m xs) s ∙ h) a
+
+-- the parts of a table that stands from a place on: its keys, and its rows
+module _ (c : ℕ) (keys rows xs rest : List ℕ) (b : ℕ) (h : drop b xs ≡ c ∷ (keys ++ rows ++ rest)) where
+  pub keys-part : drop (b + 1) xs ≡ keys ++ (rows ++ rest)
+  keys-part = after (c ∷ []) (keys ++ rows ++ rest) xs b 1 h refl ∙ append-assoc keys rows rest
+
+  pub rows-part : (n : ℕ) → length keys ≡ n → drop (b + 1 + n) xs ≡ rows ++ rest
+  rows-part n l = after keys (rows ++ rest) xs (b + 1) n keys-part l

@@ -1,0 +1,35 @@
+-- The layout of an image: 5,450 numbers. A mark, a version, the two trigger counters and the last request id;
+-- then for each table its count, its keys and its rows, used or not; last the relay store.
+-- A route has 10 numbers, a discovery 7, a record 2, a neighbour 27, a waiting entry 6.
+-- Assumes nothing.
+use Prim.Native.Nat.{ℕ}
+
+-- the mark's number, and the layout's version
+abbrev pub imageMark : ℕ
+imageMark = 2002874992
+
+abbrev pub imageVersion : ℕ
+imageVersion = 1
+
+-- where each table's count stands
+abbrev pub routesPlace : ℕ
+routesPlace = 5
+
+abbrev pub discoveriesPlace : ℕ
+discoveriesPlace = 710
+
+abbrev pub recordsPlace : ℕ
+recordsPlace = 967
+
+abbrev pub neighborsPlace : ℕ
+neighborsPlace = 1160
+
+abbrev pub waitingPlace : ℕ
+waitingPlace = 2953
+
+-- where the relay store begins, and where the image ends
+abbrev pub storePlace : ℕ
+storePlace = 3402
+
+abbrev pub imageLength : ℕ
+imageLength = 5450

@@ -1,0 +1,4 @@
+pub mod Back
+pub mod Lengths
+pub mod Parts
+pub mod Within

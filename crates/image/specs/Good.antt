@@ -1,0 +1,63 @@
+-- Which numbers are an image: the length, the mark and the version are right, and each number fits its field.
+-- Counts and keys may be any number: a count or key that is wrong is left to the call, which refuses the state (refusal 10).
+-- Assumes nothing.
+use Prim.Native.Nat.{ℕ, _+_, _-_, _%_}
+use mathlib.Core.Bool.{Bool, true, _&&_}
+use mathlib.Core.List.{List, [], _∷_}
+use lib.Dec.{eqb, leb}
+use lib.ListN.{length, take, drop, getD}
+use Rattle.numbers.specs.Read.{numberAt}
+use Rattle.cells.specs.Layout.{imageMark, imageVersion, imageLength}
+
+-- the numbers from place a up to place e
+abbrev pub part : ℕ → ℕ → List ℕ → List ℕ
+part a e xs = take (e - a) (drop a xs)
+
+-- rows whose numbers are at most the limits, field by field; i counts the numbers passed
+unfoldable pub within : List ℕ → ℕ → List ℕ → Bool
+within limits i [] = true
+within limits i (x ∷ xs) = leb x (getD limits (i % length limits) 0) && within limits (i + 1) xs
+
+-- the two trigger counters and the request id: bytes
+unfoldable pub counterLimits : List ℕ
+counterLimits = 255 ∷ []
+
+-- a route: address, status, four flags, address, byte, 32 bits, byte
+unfoldable pub routeLimits : List ℕ
+routeLimits = 65535 ∷ 3 ∷ 1 ∷ 1 ∷ 1 ∷ 1 ∷ 65535 ∷ 255 ∷ 4294967295 ∷ 255 ∷ []
+
+-- a discovery: address, byte, address, two bytes, a moment, address
+unfoldable pub discoveryLimits : List ℕ
+discoveryLimits = 65535 ∷ 255 ∷ 65535 ∷ 255 ∷ 255 ∷ 18446744073709551615 ∷ 65535 ∷ []
+
+-- a record: address, byte
+unfoldable pub recordLimits : List ℕ
+recordLimits = 65535 ∷ 255 ∷ []
+
+-- a neighbour: extended address, address, device type, flag, 16 bits, two times, relationship and a byte; five bytes of samples; a byte, a moment, two of 32 bits, a flag, two of 32 bits; a moment and five bytes
+unfoldable pub neighborLimits : List ℕ
+neighborLimits = 18446744073709551615 ∷ 65535 ∷ 2 ∷ 1 ∷ 65535 ∷ 18446744073709551615 ∷ 18446744073709551615 ∷ 9 ∷ 255 ∷ 255 ∷ 255 ∷ 255 ∷ 255 ∷ 255 ∷ 255 ∷ 18446744073709551615 ∷ 4294967295 ∷ 4294967295 ∷ 1 ∷ 4294967295 ∷ 4294967295 ∷ 18446744073709551615 ∷ 255 ∷ 255 ∷ 255 ∷ 255 ∷ 255 ∷ []
+
+-- a waiting entry: address and five bytes of samples
+unfoldable pub waitingLimits : List ℕ
+waitingLimits = 65535 ∷ 255 ∷ 255 ∷ 255 ∷ 255 ∷ 255 ∷ []
+
+-- the relay store: addresses
+unfoldable pub storeLimits : List ℕ
+storeLimits = 65535 ∷ []
+
+-- the rows of the three routing tables
+unfoldable pub routingFits : List ℕ → Bool
+routingFits xs = within routeLimits 0 (part 70 710 xs) && (within discoveryLimits 0 (part 743 967 xs) && within recordLimits 0 (part 1032 1160 xs))
+
+-- the rows of the neighbours and of the waiting samples
+unfoldable pub neighborsFit : List ℕ → Bool
+neighborsFit xs = within neighborLimits 0 (part 1225 2953 xs) && within waitingLimits 0 (part 3018 3402 xs)
+
+-- the mark, the version and the counters
+unfoldable pub headFits : List ℕ → Bool
+headFits xs = eqb (numberAt xs 0) imageMark && (eqb (numberAt xs 1) imageVersion && within counterLimits 0 (part 2 5 xs))
+
+-- a good image
+unfoldable pub goodImage : List ℕ → Bool
+goodImage xs = eqb (length xs) imageLength && (headFits xs && (routingFits xs && (neighborsFit xs && within storeLimits 0 (part 3402 5450 xs))))

@@ -1,0 +1,48 @@
+-- The world that an image holds, and the numbers that a world is written as, in the layout's order.
+-- Assumes nothing.
+use Prim.Native.Nat.{ℕ, _+_, _%_}
+use mathlib.Core.List.{List, [], _∷_, _++_}
+use Rattle.numbers.specs.Read.{numberAt, byteAt}
+use Rattle.cells.specs.Layout.{imageMark, imageVersion}
+use Rattle.cells.specs.Listed.{listed}
+use Rattle.route_image.specs.Routes.{routesAt, discoveriesAt, recordsAt, routesNumbers, discoveriesNumbers, recordsNumbers}
+use Rattle.neighbor_image.specs.Neighbors.{neighborsAt, waitingAt, waitingTableNumbers}
+use Rattle.neighbor_image.specs.Neighbors as tables
+use Rattle.routing.specs.declared.Routing.{Routing}
+use Rattle.neighbors.specs.declared.Neighbors.{Neighbors}
+use Rattle.world.specs.declared.World.{World}
+
+unfoldable pub routingIn : List ℕ → Routing
+routingIn xs = record {
+  «mtorr_route_errors» = byteAt xs 2;
+  «mtorr_delivery_failures» = byteAt xs 3;
+  «route_table» = routesAt xs;
+  «discovery_table» = discoveriesAt xs;
+  «route_record_table» = recordsAt xs;
+  «request_sequence_number» = byteAt xs 4;
+}
+
+unfoldable pub neighborsIn : List ℕ → Neighbors
+neighborsIn xs = record { table = neighborsAt xs; «pending_lqas» = waitingAt xs }
+
+-- the world, read place by place
+unfoldable pub worldIn : List ℕ → World
+worldIn xs = record { routing = routingIn xs; neighbors = neighborsIn xs }
+
+-- the relay store's 2,048 addresses
+unfoldable pub storeIn : List ℕ → List ℕ
+storeIn xs = listed (λ i. numberAt xs (3402 + i) % 65536) 0 2048
+
+-- the mark, the version, the counters and the request id
+abbrev pub headNumbers : Routing → List ℕ
+headNumbers r = imageMark ∷ imageVersion ∷ r .«mtorr_route_errors» ∷ r .«mtorr_delivery_failures» ∷ r .«request_sequence_number» ∷ []
+
+unfoldable pub routingNumbers : Routing → List ℕ
+routingNumbers r = headNumbers r ++ (routesNumbers (r .«route_table») ++ (discoveriesNumbers (r .«discovery_table») ++ recordsNumbers (r .«route_record_table»)))
+
+unfoldable pub neighborsNumbers : Neighbors → List ℕ
+neighborsNumbers s = tables.neighborsNumbers (s .table) ++ waitingTableNumbers (s .«pending_lqas»)
+
+-- a whole world, from place 0 on: 3,402 numbers, after which the relay store stands
+unfoldable pub worldNumbers : World → List ℕ
+worldNumbers w = routingNumbers (w .routing) ++ neighborsNumbers (w .neighbors)

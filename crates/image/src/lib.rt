@@ -1,0 +1,100 @@
+// The world as an image of numbers: read, judged, and written.
+mod good;
+pub mod store;
+
+use neighbors::Neighbors;
+use routing::Routing;
+use world::World;
+ghost use mathlib.Core.Path.{_≡_};
+ghost use lib.Seq.{sets};
+ghost use Rattle.image.specs.Good.{goodImage};
+ghost use Rattle.image.specs.Image.{routingIn, neighborsIn, worldIn, routingNumbers, neighborsNumbers, worldNumbers};
+
+// What is read from an image: whether it is good, and the world, which means something only where it is.
+pub struct Read {
+    pub good: bool,
+    pub world: World,
+}
+
+// The routing state in an image.
+fn routing_in(image: &[u64]) -> Routing
+    ensures { λ r. ⌜ r ≡ routingIn (now (image .entry)) ⌝ }
+{
+    let mtorr_route_errors = numbers::byte(image, 2);
+    let mtorr_delivery_failures = numbers::byte(image, 3);
+    let request_sequence_number = numbers::byte(image, 4);
+    let route_table = route_image::routes::read_routes(image);
+    let discovery_table = route_image::discoveries::read_discoveries(image);
+    let route_record_table = route_image::records::read_records(image);
+    Routing {
+        mtorr_route_errors,
+        mtorr_delivery_failures,
+        route_table,
+        discovery_table,
+        route_record_table,
+        request_sequence_number,
+    }
+}
+
+// The neighbours in an image.
+fn neighbors_in(image: &[u64]) -> Neighbors
+    ensures { λ r. ⌜ r ≡ neighborsIn (now (image .entry)) ⌝ }
+{
+    let table = neighbor_image::neighbors::read_neighbors(image);
+    let pending_lqas = neighbor_image::waiting::read_waiting(image);
+    Neighbors {
+        table,
+        pending_lqas,
+    }
+}
+
+// The world in an image, and whether the image is good. Numbers of a bad image are cut to their fields.
+pub fn world_of(image: &[u64]) -> Read
+    ensures { λ r. ⌜ r ≡ record { good = goodImage (now (image .entry)); world = worldIn (now (image .entry)) } ⌝ }
+{
+    let good = good::good(image);
+    let routing = routing_in(image);
+    let neighbors = neighbors_in(image);
+    let world = World { routing, neighbors };
+    Read { good, world }
+}
+
+// The routing state put into an image, with the mark and the version before it.
+fn write_routing(image: &mut [u64], routing: Routing)
+    ensures { λ _. ⌜ now (image .exit) ≡ sets (now (image .entry)) 0 (routingNumbers routing) ⌝ }
+{
+    let head = [
+        good::MARK,
+        good::VERSION,
+        routing.mtorr_route_errors as u64,
+        routing.mtorr_delivery_failures as u64,
+        routing.request_sequence_number as u64,
+    ];
+    let route_table = routing.route_table;
+    let discovery_table = routing.discovery_table;
+    let record_table = routing.route_record_table;
+    cells::put_each(image, 0, &head);
+    route_image::routes::write_routes(image, route_table);
+    route_image::discoveries::write_discoveries(image, discovery_table);
+    route_image::records::write_records(image, record_table);
+}
+
+// The neighbours put into an image.
+fn write_neighbors(image: &mut [u64], neighbors: Neighbors)
+    ensures { λ _. ⌜ now (image .exit) ≡ sets (now (image .entry)) 1160 (neighborsNumbers neighbors) ⌝ }
+{
+    let table = neighbors.table;
+    let pending = neighbors.pending_lqas;
+    neighbor_image::neighbors::write_neighbors(image, table);
+    neighbor_image::waiting::write_waiting(image, pending);
+}
+
+// The world put into an image; what would stand past the image's end is left out.
+pub fn write_world(world: World, image: &mut [u64])
+    ensures { λ _. ⌜ now (image .exit) ≡ sets (now (image .entry)) 0 (worldNumbers world) ⌝ }
+{
+    let routing = world.routing;
+    let neighbors = world.neighbors;
+    write_routing(image, routing);
+    write_neighbors(image, neighbors);
+}

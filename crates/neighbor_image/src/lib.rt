@@ -1,0 +1,3 @@
+// The neighbours and the waiting samples as numbers of an image.
+pub mod neighbors;
+pub mod waiting;

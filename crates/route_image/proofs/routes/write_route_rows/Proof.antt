@@ -1,0 +1,88 @@
+-- What is put, with the rows that are left put after it, is every row put.
+use Prim.Native.Nat.{ℕ, _+_, _*_, _-_, _≤_, _<_}
+use mathlib.Core.List.{List, flatMap}
+use mathlib.Core.Path.{_≡_, refl, sym, ap, _∙_}
+use native.Mathlib.Omega.{arith}
+use lib.ListN.{length, drop, getD}
+use lib.Seq.{sets, length-sets}
+use Rattle.flat_map.proofs.Shift.{unmapped}
+use Rattle.cells.proofs.Writing.{put-row, rows-done}
+use Rattle.route_answers.specs.Values.{routeNumbers}
+use lib.ListN.{length, drop}
+use borrow.Author.Needs.{needs}
+use Rattle.route_image.proofs.routes.write_route_rows.Statement.{statement}
+use Rattle.route_image.proofs.routes.write_route_rows.Tie as tie
+
+abbrev Inv-loop : tie.InvT-loop
+Inv-loop image₀ t i₀ image i = (i ≤ 64) × (length image ≡ length image₀) × (sets image (70 + i * 10) (flatMap routeNumbers (drop i (t .entries))) ≡ sets image₀ 70 (flatMap routeNumbers (t .entries)))
+
+abbrev μ-loop : tie.MeasureT-loop
+μ-loop image₀ t i₀ image i = 64 - i
+
+-- the array is as long as its type says
+long : (c : tie.Start Inv-loop μ-loop) → length (c .args .t2 .entries) ≡ 64
+long c = search (needs, unmapped)
+
+loop-holds : tie.Need-loop-holds Inv-loop μ-loop
+loop-holds c = (search needs, refl, refl)
+
+mul-e : tie.Need-mul-e Inv-loop μ-loop
+mul-e c = search needs
+
+element-copy-out-e : tie.Need-element-copy-out-e Inv-loop μ-loop
+element-copy-out-e c = search needs
+
+mul-write-route : tie.Need-mul-write-route Inv-loop μ-loop
+mul-write-route c = search needs
+
+add-write-route : tie.Need-add-write-route Inv-loop μ-loop
+add-write-route c = search needs
+
+write-route-requires : tie.Need-write-route-requires Inv-loop μ-loop
+write-route-requires c κs = search needs
+
+add-i : tie.Need-add-i Inv-loop μ-loop
+add-i c = search needs
+
+loop-less : tie.Need-loop-less Inv-loop μ-loop
+loop-less c = search needs
+
+loop-again : tie.Need-loop-again Inv-loop μ-loop
+loop-again c =
+    let l = c .before .before .before .before .before .before .loop in
+    let s = c .before .before .before .before .before .before .before .before in
+    let h : l .i < length (s .args .t2 .entries) = omega (arith, long s, c .before .before .before .before .before .loop-test .taken) in
+    let e = c .before .before .write-route .ensures in (
+      search needs,
+      ap length e ∙ length-sets (l .image) (70 + l .i * 10) (routeNumbers (getD (s .args .t2 .entries) (l .i) _)) ∙ l .inv .1,
+      ap (λ (m : List ℕ). sets m (70 + (l .i + 1) * 10) (flatMap routeNumbers (drop (l .i + 1) (s .args .t2 .entries)))) e
+          ∙ put-row routeNumbers 10 (s .args .t2 .entries) 70 (l .i) (l .image) _ h refl
+          ∙ l .inv .2,
+    )
+
+same-length : tie.Need-same-length Inv-loop μ-loop
+same-length c = c .before .loop .inv .1
+
+returns : tie.Need-returns Inv-loop μ-loop
+returns c =
+    let l = c .before .loop in
+    let s = c .before .before .before in
+    sym (rows-done routeNumbers 10 (s .args .t2 .entries) 70 (l .i) (l .image) (omega (arith, long s, c .loop-test .left))) ∙ l .inv .2
+
+pub write-route-rows-spec : {M : Type 1} → statement M
+write-route-rows-spec =
+    tie.close
+    (tie.spec
+    Inv-loop
+    μ-loop
+    loop-holds
+    mul-e
+    element-copy-out-e
+    mul-write-route
+    add-write-route
+    write-route-requires
+    add-i
+    loop-less
+    loop-again
+    same-length
+    returns)

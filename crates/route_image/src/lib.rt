@@ -1,0 +1,4 @@
+// The three routing tables as numbers of an image.
+pub mod discoveries;
+pub mod records;
+pub mod routes;
