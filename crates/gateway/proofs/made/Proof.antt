@@ -1,0 +1,53 @@
+-- The store is read, the call made, and what it leaves kept.
+use Prim.Native.Nat.{ℕ}
+use mathlib.Core.List.{List}
+use mathlib.Core.Path.{ap, ap₂, _∙_}
+use denote.Ref.{now}
+use Rattle.world.specs.declared.World.{World}
+use Rattle.world.specs.declared.Reply.{Reply}
+use Rattle.calls.specs.Groups.{callOf, storeOf}
+use Rattle.gateway.specs.Door.{madeAnswer, madeImage, imageWith}
+use borrow.Author.Needs.{needs}
+use Rattle.gateway.proofs.made.Statement.{statement}
+use Rattle.gateway.proofs.made.Tie as tie
+
+read-store-requires : tie.Need-read-store-requires
+read-store-requires c κs = search needs
+
+slice-aggregate-call : tie.Need-slice-aggregate-call
+slice-aggregate-call c = search needs
+
+call-requires : tie.Need-call-requires
+call-requires c κs = search needs
+
+slice-aggregate-keep : tie.Need-slice-aggregate-keep
+slice-aggregate-keep c = search needs
+
+keep-requires : tie.Need-keep-requires
+keep-requires c κs = search needs
+
+same-length : tie.Need-same-length
+same-length c = search needs
+
+returns : tie.Need-returns
+unfolding madeAnswer madeImage
+returns c =
+    let a = c .before .before .before .before .before .before .before .before .before .before .before .before .before .before .args in
+    let n = a .number in
+    let g = now (a .args) in
+    let s = c .before .before .before .before .before .before .before .before .before .before .read-store .ensures in
+    let e = c .before .before .before .before .before .before .before .before .call .ensures .0 ∙ ap (λ (m : List ℕ). callOf (a .world) n g m) s in
+    let f = c .before .before .before .before .before .before .before .before .call .ensures .1 ∙ ap (λ (m : List ℕ). storeOf (a .world) n g m) s in
+    (ap (λ (r : Reply). r .answer) e, c .before .before .keep .ensures ∙ ap₂ (λ (w : World) (m : List ℕ). imageWith w m (now (a .image))) (ap (λ (r : Reply). r .world) e) f)
+
+pub made-spec : {M : Type 1} → statement M
+made-spec =
+    tie.close
+    (tie.spec
+    read-store-requires
+    slice-aggregate-call
+    call-requires
+    slice-aggregate-keep
+    keep-requires
+    same-length
+    returns)

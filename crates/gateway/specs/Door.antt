@@ -1,0 +1,55 @@
+-- What the door's functions answer and write. A refusal's number is that of document 01: 8 for a bad length, 10 for a damaged image.
+-- Assumes nothing.
+use Prim.Native.Nat.{ℕ}
+use mathlib.Core.Bool.{Bool, cond}
+use mathlib.Core.List.{List, [], _∷_}
+use lib.Dec.{eqb, ltb}
+use lib.ListN.{length, replicate}
+use lib.Seq.{sets}
+use Rattle.types.specs.declared.Refusal.the-variants.{StateIllFormed}
+use Rattle.numbers.specs.declared.Answer.{Answer}
+use Rattle.numbers.specs.Said.{spoken, refusedBy}
+use Rattle.world.specs.declared.World.{World}
+use Rattle.world.specs.Worlds.{freshWorld}
+use Rattle.calls.specs.Groups.{callOf, storeOf}
+use Rattle.image.specs.Good.{goodImage}
+use Rattle.image.specs.Image.{worldIn, storeIn, worldNumbers}
+
+-- a world and a store put into an image
+unfoldable pub imageWith : World → List ℕ → List ℕ → List ℕ
+imageWith w store xs = sets (sets xs 0 (worldNumbers w)) 3402 store
+
+-- a new image: 0 and the fresh world, or 8 and nothing where the length is wrong
+unfoldable pub newStatus : List ℕ → ℕ
+newStatus xs = cond (eqb (length xs) 5450) 0 8
+
+unfoldable pub newImage : List ℕ → List ℕ
+newImage xs = cond (eqb (length xs) 5450) (imageWith freshWorld (replicate 2048 0) xs) xs
+
+-- a call made on a world and on the image's store
+unfoldable pub madeAnswer : World → ℕ → List ℕ → List ℕ → Answer
+madeAnswer w n args xs = callOf w n args (storeIn xs) .answer
+
+unfoldable pub madeImage : World → ℕ → List ℕ → List ℕ → List ℕ
+madeImage w n args xs = imageWith (callOf w n args (storeIn xs) .world) (storeOf w n args (storeIn xs)) xs
+
+-- a call on an image: a damaged one is refused, and stays
+unfoldable pub answerOf : ℕ → List ℕ → List ℕ → Answer
+answerOf n args xs = cond (goodImage xs) (madeAnswer (worldIn xs) n args xs) (spoken (refusedBy StateIllFormed))
+
+unfoldable pub imageAfter : ℕ → List ℕ → List ℕ → List ℕ
+imageAfter n args xs = cond (goodImage xs) (madeImage (worldIn xs) n args xs) xs
+
+-- an answer as C reads it: its kind, its count, and 256 values, of which those after the count mean nothing
+unfoldable pub answerWritten : Answer → List ℕ → List ℕ
+answerWritten a ys = sets (sets ys 0 (a .kind ∷ a .numbers .count ∷ [])) 2 (a .numbers .values)
+
+-- the call: 8 and nothing where the answer has no room, else 0
+unfoldable pub callStatus : List ℕ → ℕ
+callStatus ys = cond (ltb (length ys) 258) 8 0
+
+unfoldable pub callImage : ℕ → List ℕ → List ℕ → List ℕ → List ℕ
+callImage n args xs ys = cond (ltb (length ys) 258) xs (imageAfter n args xs)
+
+unfoldable pub callAnswer : ℕ → List ℕ → List ℕ → List ℕ → List ℕ
+callAnswer n args xs ys = cond (ltb (length ys) 258) ys (answerWritten (answerOf n args xs) ys)

@@ -1,0 +1,101 @@
+// The door for Rust and C: an image of numbers that the caller keeps, made new, called on, and answered from.
+use numbers::Answer;
+use types::Refusal;
+use world::World;
+ghost use mathlib.Core.Path.{_≡_};
+ghost use Rattle.gateway.specs.Door.{imageWith, newStatus, newImage, madeAnswer, madeImage, answerOf, imageAfter, answerWritten, callStatus, callImage, callAnswer};
+
+// How many numbers an image has.
+#[no_mangle]
+pub extern "C" fn warpteasel_image_length() -> usize
+    ensures { λ r. ⌜ r ≡ 5450 ⌝ }
+{
+    5450
+}
+
+// How many numbers an answer needs: its kind, its count, and up to 256 values.
+#[no_mangle]
+pub extern "C" fn warpteasel_answer_length() -> usize
+    ensures { λ r. ⌜ r ≡ 258 ⌝ }
+{
+    258
+}
+
+// A world and a relay store put into an image.
+fn keep(world: World, store: &[u16], image: &mut [u64])
+    ensures { λ _. ⌜ now (image .exit) ≡ imageWith world (now (store .entry)) (now (image .entry)) ⌝ }
+{
+    image::write_world(world, image);
+    image::store::write_store(store, image);
+}
+
+// A fresh world with an empty relay store. A wrong length is answered 8, and nothing is written.
+#[no_mangle]
+pub extern "C" fn warpteasel_new(image: &mut [u64]) -> u64
+    ensures { λ r. ⌜ r ≡ newStatus (now (image .entry)) ⌝ }
+    ensures { λ _. ⌜ now (image .exit) ≡ newImage (now (image .entry)) ⌝ }
+{
+    if image.len() != 5450 {
+        return 8;
+    }
+    let world = world::fresh();
+    let store = [0u16; 2048];
+    keep(world, &store, image);
+    0
+}
+
+// A call made on a world and on the store of the image, which is left as the call leaves them.
+fn made(world: World, number: u64, args: &[u64], image: &mut [u64]) -> Answer
+    ensures { λ r. ⌜ r ≡ madeAnswer world number (now (args .entry)) (now (image .entry)) ⌝ }
+    ensures { λ _. ⌜ now (image .exit) ≡ madeImage world number (now (args .entry)) (now (image .entry)) ⌝ }
+{
+    let mut store = image::store::read_store(image);
+    let reply = calls::call(world, number, args, &mut store);
+    let after = reply.world;
+    let answer = reply.answer;
+    keep(after, &store, image);
+    answer
+}
+
+// A call on an image; a damaged one is refused with 10, and stays.
+fn answered(number: u64, args: &[u64], image: &mut [u64]) -> Answer
+    ensures { λ r. ⌜ r ≡ answerOf number (now (args .entry)) (now (image .entry)) ⌝ }
+    ensures { λ _. ⌜ now (image .exit) ≡ imageAfter number (now (args .entry)) (now (image .entry)) ⌝ }
+{
+    let read = image::world_of(image);
+    let world = read.world;
+    if read.good {
+        return made(world, number, args, image);
+    }
+    numbers::refused(Refusal::StateIllFormed)
+}
+
+// An answer's kind, count and values, one after another.
+fn write_answer(out: &mut [u64], a: Answer)
+    ensures { λ _. ⌜ now (out .exit) ≡ answerWritten a (now (out .entry)) ⌝ }
+{
+    let n = a.numbers;
+    let head = [a.kind as u64, n.count as u64];
+    cells::put_each(out, 0, &head);
+    cells::put_each(out, 2, &n.values);
+}
+
+// The call of a number on an image. An answer with no room is answered 8, and nothing is written.
+#[no_mangle]
+pub extern "C" fn warpteasel_call(
+    image: &mut [u64],
+    number: u64,
+    args: &[u64],
+    answer: &mut [u64],
+) -> u64
+    ensures { λ r. ⌜ r ≡ callStatus (now (answer .entry)) ⌝ }
+    ensures { λ _. ⌜ now (image .exit) ≡ callImage number (now (args .entry)) (now (image .entry)) (now (answer .entry)) ⌝ }
+    ensures { λ _. ⌜ now (answer .exit) ≡ callAnswer number (now (args .entry)) (now (image .entry)) (now (answer .entry)) ⌝ }
+{
+    if answer.len() < 258 {
+        return 8;
+    }
+    let a = answered(number, args, image);
+    write_answer(answer, a);
+    0
+}
