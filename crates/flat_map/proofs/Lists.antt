@@ -4,24 +4,12 @@ use Prim.Native.Nat.{ℕ, zero, suc, _<_, _≤_}
 use native.Mathlib.Nat.{le-of-suc-le-suc, not-suc-le-zero}
 use native.Mathlib.Omega.{arith}
 use mathlib.Core.List.{List, [], _∷_}
-use mathlib.Core.Option.{none, some}
 use mathlib.Core.Path.{_≡_, refl}
 use lib.ListN.{length, getD}
 use Rattle.standard.specs.Ordered.{popFirst}
-use Rattle.standard.specs.Rows.{rowAt}
 use Rattle.flat_map.specs.Rows.{removeAt}
 
 module _ {E : Type 0} where
-  pub place-in : (xs : List E) (i : ℕ) (d : E) → i < length xs → rowAt i xs ≡ some (getD xs i d)
-  place-in [] i d h = absurd (not-suc-le-zero h)
-  place-in (x ∷ xs) zero d h = refl
-  place-in (x ∷ xs) (suc i) d h = place-in xs i d (le-of-suc-le-suc h)
-
-  pub place-past : (xs : List E) (i : ℕ) → length xs ≤ i → rowAt i xs ≡ none
-  place-past [] i h = refl
-  place-past (x ∷ xs) zero h = absurd (not-suc-le-zero h)
-  place-past (x ∷ xs) (suc i) h = place-past xs i (le-of-suc-le-suc h)
-
   -- read within its length, a list does not give the default
   pub any-default : (xs : List E) (i : ℕ) (a b : E) → i < length xs → getD xs i a ≡ getD xs i b
   any-default [] i a b h = absurd (not-suc-le-zero h)

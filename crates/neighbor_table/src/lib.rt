@@ -12,7 +12,7 @@ ghost use lib.ListN.{take, length};
 ghost use Rattle.flat_map.specs.Seek.{placeOf};
 ghost use Rattle.flat_map.specs.Table.{every};
 ghost use Rattle.standard.specs.Ordered.{lookup, put, remove, countWith};
-ghost use Rattle.standard.specs.Rows.{rowAt};
+ghost use Rattle.standard.specs.Query.{entryAt};
 ghost use Rattle.standard.specs.Tells.{Tells};
 ghost use Rattle.neighbor_table.specs.Entry.{isRouter, isEndDevice, isChild, qualityOf, costOf, deviceTypeNumber, relationshipNumber, neighborKey, blankNeighbor, quiet, isBlank, isSound};
 ghost use Rattle.neighbor_table.specs.Table.{OwnKeys, BlankFrom, Formed64, formed64, WellFormed, wellFormed, rowsOf, tableOf, inserted, replaced, removed, looked};
@@ -496,7 +496,7 @@ pub fn count_of(t: NeighborTable) -> usize
 // The neighbour at a place, in order of address; nothing from the count on.
 pub fn entry_at(t: NeighborTable, i: usize) -> NeighborLookup
     requires { ⌜ Formed64 t ⌝ }
-    ensures { λ r. ⌜ r ≡ looked (rowAt i (rowsOf t)) ⌝ }
+    ensures { λ r. ⌜ r ≡ looked (entryAt i (rowsOf t)) ⌝ }
 {
     if t.count <= i {
         return missing();

@@ -10,7 +10,8 @@ use Rattle.types.specs.declared.Eui64.{Eui64}
 use Rattle.types.specs.declared.Refusal.the-variants.{StateIllFormed}
 use Rattle.standard.specs.Ordered.{lookup, keep}
 use Rattle.standard.specs.Query.{first, someFits, countFits}
-use Rattle.standard.specs.Rows.{rowAt, least}
+use Rattle.standard.specs.Query as query
+use Rattle.standard.specs.Rows.{least}
 use Rattle.neighbor_table.specs.Entry.{neighborKey}
 use Rattle.neighbor_table.specs.Table.{looked}
 use Rattle.neighbor_queries.specs.declared.Filter.the-variants.{Address, EndDeviceChild, EndDeviceChildAt, SleepyChild, SleepyChildAt, LiveRouter, SampledRouter}
@@ -54,7 +55,7 @@ count s = cond (wellFormed s) (countCore s) (counts.Refused StateIllFormed)
 
 -- the neighbour at a place, in order of extended address; nothing from the count on
 abbrev pub entryAtCore : Neighbors → ℕ → EntryAnswer
-entryAtCore s place = entryIn (looked (rowAt place (rows s)))
+entryAtCore s place = entryIn (looked (query.entryAt place (rows s)))
 
 unfoldable pub entryAt : Neighbors → ℕ → EntryAnswer
 entryAt s place = cond (wellFormed s) (entryAtCore s place) (refusedEntry StateIllFormed)

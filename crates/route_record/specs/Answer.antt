@@ -10,8 +10,8 @@ use lib.ListN.{length}
 use Rattle.types.specs.declared.Nwk.{Nwk}
 use Rattle.types.specs.declared.Refusal.the-variants.{RecordTableFull}
 use Rattle.standard.specs.Ordered.{lookup, put, remove}
-use Rattle.standard.specs.Query.{entryAt}
-use Rattle.standard.specs.Records.{RouteRecord, Way, addressKey, recordFor, relaysStored, recordStored, recordChanged, isKnown, wayBy}
+use Rattle.standard.specs.Query.{entryAt, isThere}
+use Rattle.standard.specs.Records.{RouteRecord, Way, addressKey, recordFor, relaysStored, recordStored, recordChanged, wayBy}
 use Rattle.record_table.specs.declared.RecordTable.{RecordTable}
 use Rattle.relay_store.specs.Store.{relayList}
 use Rattle.record_table.specs.declared.RecordLookup.the-variants.{Found, Missing}
@@ -68,7 +68,7 @@ storedStore source relays t store =
 -- the record of a destination removed, and whether there was one
 unfoldable pub removedStep : Nwk → RecordTable → List ℕ → RecordRemoved
 removedStep destination t store = record {
-  removed = isKnown (recordAt destination t store);
+  removed = isThere (recordAt destination t store);
   table = tableFor (remove addressKey (destination .0) (recordsOf t store));
 }
 

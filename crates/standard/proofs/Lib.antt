@@ -2,3 +2,4 @@ pub mod Tells
 pub mod Median
 pub mod Ring
 pub mod Unique
+pub mod Pairs

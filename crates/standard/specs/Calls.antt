@@ -2,7 +2,7 @@
 -- Document 01, "Route rules", "Refusal numbers" (1 and 6) and "Modules, leaves first" (the check).
 -- Assumes nothing.
 use Prim.Native.Nat.{ℕ}
-use mathlib.Core.Bool.{Bool, true, false, cond, not, _&&_, _||_}
+use mathlib.Core.Bool.{Bool, false, cond, not, _&&_, _||_}
 use mathlib.Core.List.{List}
 use mathlib.Core.Option.{Option, none, some, Option·map}
 use lib.Dec.{eqb}
@@ -13,7 +13,7 @@ use Rattle.standard.specs.declared.RouteEntry.{RouteEntry}
 use Rattle.standard.specs.declared.DiscoveryEntry.{DiscoveryEntry}
 use Rattle.standard.specs.Discovery.{names}
 use Rattle.standard.specs.Ordered.{lookup, put}
-use Rattle.standard.specs.Query.{first, someFits}
+use Rattle.standard.specs.Query.{first, someFits, isThere}
 use Rattle.standard.specs.Route.{unknownHop, isActive, isUnderway, routeKey, routeOr, withStatus}
 
 -- the rows with the row found changed; where none was found, as they are
@@ -24,10 +24,6 @@ changedTo change xs (some e) = put routeKey (change e) xs
 -- a change of one route, on any status, if it is there: look-up and insert "have their usual map meaning"
 unfoldable pub changeRoute : ℕ → (RouteEntry → RouteEntry) → List RouteEntry → List RouteEntry
 changeRoute k change xs = changedTo change xs (lookup routeKey k xs)
-
-abbrev pub isThere : Option RouteEntry → Bool
-isThere none = false
-isThere (some e) = true
 
 -- whether there is a route under k: what a removal reports
 unfoldable pub hasRoute : ℕ → List RouteEntry → Bool

@@ -26,7 +26,12 @@ module _ {E : Type 0} (fits : E → Bool) where
   changeFirst f [] = []
   changeFirst f (x ∷ xs) = cond (fits x) (f x ∷ xs) (x ∷ changeFirst f xs)
 
--- the row at a place, and nothing from the count on
+-- whether a row was found
+abbrev pub isThere : {E : Type 0} → Option E → Bool
+isThere none = false
+isThere (some x) = true
+
+-- "a count and the entry at a place, nothing from the count on": document 01, "Shapes that must change"
 unfoldable pub entryAt : {E : Type 0} → ℕ → List E → Option E
 entryAt i [] = none
 entryAt zero (x ∷ xs) = some x

@@ -51,11 +51,6 @@ otherRelays relays (some x) = not (sameRelays (x .relays) relays)
 unfoldable pub recordChanged : Nwk → List Nwk → List RouteRecord → Bool
 recordChanged source relays xs = otherRelays relays (lookup addressKey (source .0) (relaysStored relays xs))
 
--- there is a record
-abbrev pub isKnown : Option RouteRecord → Bool
-isKnown none = false
-isKnown (some x) = true
-
 -- what a record says of the way, and the relays of a source route
 pub record Way : Type 0 where
   pub route : RecordRoute

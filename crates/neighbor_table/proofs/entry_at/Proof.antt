@@ -4,10 +4,9 @@ use borrow.Author.Needs.{needs}
 use mathlib.Core.Option.{some}
 use mathlib.Core.Path.{sym, ap, _∙_}
 use native.Mathlib.Omega.{arith}
-use Rattle.flat_map.proofs.Lists.{place-in, place-past}
-use Rattle.flat_map.proofs.Table.{rows-length, row-at}
+use Rattle.flat_map.proofs.Query.{entry-in-use, entry-not-in-use}
 use Rattle.neighbor_table.specs.Entry.{neighborKey, blankNeighbor}
-use Rattle.neighbor_table.specs.Table.{rowsOf, looked}
+use Rattle.neighbor_table.specs.Table.{looked}
 use Rattle.neighbor_table.proofs.Rows.{read}
 use Rattle.neighbor_table.proofs.entry_at.Statement.{statement}
 use Rattle.neighbor_table.proofs.entry_at.Tie as tie
@@ -19,7 +18,7 @@ returns : tie.Need-returns
 returns c =
     let s = c .before .before in
     let t = s .args .t1 in
-    c .missing .ensures ∙ ap looked (sym (place-past (rowsOf t) (s .args .i) (omega (arith, rows-length 64 neighborKey blankNeighbor (t .keys) (t .entries) (t .count) (s .pre)))))
+    c .missing .ensures ∙ ap looked (sym (entry-not-in-use 64 neighborKey blankNeighbor (t .keys) (t .entries) (t .count) (s .pre) (s .args .i) (omega arith)))
 
 mul-e : tie.Need-mul-e
 mul-e c = omega (arith, c .before .pre .small)
@@ -36,8 +35,7 @@ returns-2 c =
     let t = s .args .t1 in
     c .found .ensures
     ∙ ap (λ e. looked (some e)) (read t (s .args .i) _ (s .pre) (omega arith))
-    ∙ ap (λ e. looked (some e)) (row-at 64 neighborKey blankNeighbor (t .keys) (t .entries) (t .count) (s .pre) (s .args .i) (omega arith))
-    ∙ ap looked (sym (place-in (rowsOf t) (s .args .i) blankNeighbor (omega (arith, rows-length 64 neighborKey blankNeighbor (t .keys) (t .entries) (t .count) (s .pre)))))
+    ∙ ap looked (sym (entry-in-use 64 neighborKey blankNeighbor (t .keys) (t .entries) (t .count) (s .pre) (s .args .i) (omega arith)))
 
 pub entry-at-spec : {M : Type 1} → statement M
 entry-at-spec =

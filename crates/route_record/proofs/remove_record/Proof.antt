@@ -2,7 +2,8 @@
 -- Assumes nothing.
 use mathlib.Core.Path.{sym, ap, _∙_}
 use Rattle.standard.specs.Ordered.{remove}
-use Rattle.standard.specs.Records.{addressKey, isKnown}
+use Rattle.standard.specs.Query.{isThere}
+use Rattle.standard.specs.Records.{addressKey}
 use Rattle.flat_map.proofs.Table.{remove-absent}
 use Rattle.relay_store.specs.Packed.{recordsOf, tableFor, storeFor, blankRouteRecord}
 use Rattle.relay_store.proofs.Packing.{view-table, view-store}
@@ -29,7 +30,7 @@ returns c =
     let store = s .args .store .now in
     let row = missing t store (s .pre) _ _ (sym (c .enum-told .given .1) ∙ c .before .before .place-of .ensures) in
     let same = remove-absent addressKey blankRouteRecord (s .args .destination .0) (recordsOf t store) row in (
-      λ z. record { removed = isKnown (sym row z); table = (view-table t store (s .pre .formed) (s .pre .agrees) ∙ ap tableFor (sym same)) z },
+      λ z. record { removed = isThere (sym row z); table = (view-table t store (s .pre .formed) (s .pre .agrees) ∙ ap tableFor (sym same)) z },
       view-store t store (s .pre .formed) (s .pre .agrees) ∙ ap storeFor (sym same),
     )
 
@@ -55,7 +56,7 @@ returns-2 c =
     let store = s .args .store .now in
     let p = sym (at .place .given .1) ∙ at .before .before .place-of .ensures in
     let row = found t store (s .pre) _ _ p in (
-      λ z. record { removed = isKnown (sym row z); table = (c .remove .ensures ∙ remove-table t store (s .pre) (s .args .destination .0)) z },
+      λ z. record { removed = isThere (sym row z); table = (c .remove .ensures ∙ remove-table t store (s .pre) (s .args .destination .0)) z },
       shift .shift-rows-down .ensures ∙ remove-store t store (s .pre) _ _ p,
     )
 
