@@ -1,5 +1,5 @@
 -- What each call about children answers and leaves: the rule on the rows, for a well-formed state; refusal 10 for any other.
--- Document 01, "Refusal numbers": 10, then 5, then 4; "All hand back the given state .. unchanged and no other answer".
+-- Document 01, "Refusal numbers": 10, then 5, then 4; "All hand back the given state .. unchanged and no other answer". 05-3474, sections 3.6.10.1, 3.6.10.2 and 3.6.10.4.
 -- Assumes nothing.
 use Prim.Native.Nat.{ℕ}
 use mathlib.Core.Bool.{Bool, true, false, cond, _&&_}

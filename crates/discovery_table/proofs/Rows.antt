@@ -8,9 +8,9 @@ use mathlib.Core.Path.{_≡_, refl, ap}
 use Rattle.standard.specs.Tells.{Tells}
 use Rattle.standard.specs.declared.DiscoveryEntry.{DiscoveryEntry}
 use Rattle.standard.specs.Discovery.{discoveryKey}
+use Rattle.standard.proofs.Tells.{tells-both, tells-eq, tells-so}
 use Rattle.flat_map.specs.Table.{Fit, Holds}
 use Rattle.flat_map.proofs.Table.{view, fit, formed-rows, rows-back}
-use Rattle.flat_map.proofs.Told.{both-told, eq-told, told-as}
 use Rattle.flat_map.proofs.WellFormed.{formed-told}
 use Rattle.discovery_table.specs.declared.DiscoveryTable.{DiscoveryTable}
 use Rattle.discovery_table.specs.declared.DiscoveryLookup.the-variants.{Found, Missing}
@@ -64,14 +64,14 @@ cleared e q = (
 pub blank-told : (e : DiscoveryEntry) → Tells (e ≡ blankDiscovery) (isBlank e)
 unfolding Cleared
 blank-told e =
-    told-as (blank-is e) (cleared e)
-    (both-told (eq-told (e .«route_request_id») 0)
-    (both-told (eq-told (e .«source_address» .0) 0)
-    (both-told (eq-told (e .«sender_address» .0) 0)
-    (both-told (eq-told (e .«forward_cost») 0)
-    (both-told (eq-told (e .«residual_cost») 0)
-    (both-told (eq-told (e .«expiration_time») 0)
-    (eq-told (e .«destination_address» .0) 0)))))))
+    tells-so (blank-is e) (cleared e)
+    (tells-both (tells-eq (e .«route_request_id») 0)
+    (tells-both (tells-eq (e .«source_address» .0) 0)
+    (tells-both (tells-eq (e .«sender_address» .0) 0)
+    (tells-both (tells-eq (e .«forward_cost») 0)
+    (tells-both (tells-eq (e .«residual_cost») 0)
+    (tells-both (tells-eq (e .«expiration_time») 0)
+    (tells-eq (e .«destination_address» .0) 0)))))))
 
 pub well-formed-told : (t : DiscoveryTable) → Tells (WellFormed t) (wellFormed t)
 well-formed-told t = formed-told 32 discoveryKey blankDiscovery (t .keys) (t .entries) (t .count) isBlank blank-told

@@ -8,16 +8,15 @@ use mathlib.Core.List.{List, [], _∷_}
 use lib.ListN.{length, take, getD}
 use Rattle.standard.specs.Ordered.{put, remove, keep}
 use Rattle.standard.specs.Tells.{Tells}
-use Rattle.standard.proofs.Tells.{yes-so}
+use Rattle.standard.proofs.Tells.{yes-so, tells-both}
 use Rattle.flat_map.specs.Table.{Each, every}
 use Rattle.flat_map.proofs.Compare.{Tri, lt, eq, gt, tri}
 use Rattle.flat_map.proofs.Ordered.{put-none, put-lt, put-eq, put-gt, remove-none, remove-here, remove-past}
-use Rattle.flat_map.proofs.Told.{both-told}
 
 module _ {A : Type 0} (P : A → Type 0) where
   pub each-told : (test : A → Bool) → ((x : A) → Tells (P x) (test x)) → (xs : List A) → Tells (Each P xs) (every test xs)
   each-told test t [] = yes-so tt
-  each-told test t (x ∷ xs) = both-told (t x) (each-told test t xs)
+  each-told test t (x ∷ xs) = tells-both (t x) (each-told test t xs)
 
   -- by what stands in the first n places of an array, and back
   pub each-placed : (d : A) (xs : List A) (n : ℕ) → n ≤ length xs → ((i : ℕ) → i < n → P (getD xs i d)) → Each P (take n xs)

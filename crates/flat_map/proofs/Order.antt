@@ -8,11 +8,10 @@ use mathlib.Core.List.{List, [], _∷_}
 use mathlib.Core.Path.{_≡_, refl, sym, ap, _∙_, subst}
 use lib.ListN.{length, getD}
 use Rattle.standard.specs.Ordered.{Before, Asc}
-use Rattle.standard.proofs.Tells.{yes-so}
+use Rattle.standard.proofs.Tells.{yes-so, tells-both, tells-lt}
 use Rattle.standard.specs.Tells.{Tells}
 use Rattle.flat_map.specs.Rows.{removeAt}
 use Rattle.flat_map.specs.Table.{Rising, ascends}
-use Rattle.flat_map.proofs.Told.{both-told, lt-told}
 
 pub before-trans : (j k : ℕ) (xs : List ℕ) → j < k → Before k xs → Before j xs
 before-trans j k [] h b = tt
@@ -47,4 +46,4 @@ asc-removeAt (x ∷ xs) (suc i) a = (before-removeAt x xs i (a .0) (a .1), asc-r
 pub asc-told : (xs : List ℕ) → Tells (Asc xs) (ascends xs)
 asc-told [] = yes-so tt
 asc-told (x ∷ []) = yes-so (tt, tt)
-asc-told (x ∷ y ∷ r) = both-told (lt-told x y) (asc-told (y ∷ r))
+asc-told (x ∷ y ∷ r) = tells-both (tells-lt x y) (asc-told (y ∷ r))

@@ -16,6 +16,7 @@ use Rattle.flat_map.specs.Seek.{placeOf}
 use Rattle.flat_map.specs.Shift.{shiftIn, shiftOut}
 use Rattle.flat_map.specs.Rows.{pad, insertAt, removeAt, keepFrom, mapFirst}
 use Rattle.flat_map.specs.Table.{Rising, Formed, Fit, Holds}
+use Rattle.flat_map.proofs.Lists.{any-default}
 use Rattle.flat_map.proofs.Compare.{Tri, lt, eq, gt, tri}
 use Rattle.flat_map.proofs.Order.{rising-asc, asc-rising, asc-removeAt}
 use Rattle.flat_map.proofs.Ordered.{none-some, lookup-here, lookup-past, lookup-none, lookup-below, put-none, put-lt, put-eq, put-gt, remove-none, remove-here, remove-past, keys-map}
@@ -71,12 +72,6 @@ module _ {E : Type 0} (keyOf : E → ℕ) (blank : E) where
     go (eq p) ih = absurd (none-some x (sym h ∙ lookup-here keyOf k x xs p))
     go (gt p) ih = past (λ e. omega arith) ih
 
--- lists of numbers read within their length: the default does not matter
-pub same-default : (ks : List ℕ) (i a b : ℕ) → i < length ks → getD ks i a ≡ getD ks i b
-same-default [] i a b h = absurd (omega arith)
-same-default (k ∷ ks) zero a b h = refl
-same-default (k ∷ ks) (suc i) a b h = same-default ks i a b (omega arith)
-
 -- from the arrays to the rows
 module _ {E : Type 0} (cap : ℕ) (keyOf : E → ℕ) (blank : E) (keys : List ℕ) (entries : List E) (count : ℕ) (f : Formed cap keyOf blank keys entries count) where
   pub rows-length : length (take count entries) ≡ count
@@ -100,7 +95,7 @@ module _ {E : Type 0} (cap : ℕ) (keyOf : E → ℕ) (blank : E) (keys : List �
         getD-take count keys i 0 (omega (arith, keys-length)) ∙ f .own i (omega (arith, keys-length))
         ∙ ap keyOf (row-at i (omega (arith, keys-length)))
         ∙ sym (List·getD-map keyOf (take count entries) i blank)
-        ∙ same-default (map keyOf (take count entries)) i (keyOf blank) 0 (omega (arith, keys-length, wide))
+        ∙ any-default (map keyOf (take count entries)) i (keyOf blank) 0 (omega (arith, keys-length, wide))
 
   -- a well-formed table is its rows, padded
   pub view : Holds cap keyOf blank keys entries count (take count entries)
@@ -174,7 +169,7 @@ module _ {E : Type 0} (cap : ℕ) (keyOf : E → ℕ) (blank : E) (keys : List �
     at = placed-rows (keyOf e) (Found i) p
 
     own : keyOf e ≡ keyOf (getD (take count entries) i blank)
-    own = sym (at .1) ∙ same-default (map keyOf (take count entries)) i 0 (keyOf blank) (at .0) ∙ List·getD-map keyOf (take count entries) i blank
+    own = sym (at .1) ∙ any-default (map keyOf (take count entries)) i 0 (keyOf blank) (at .0) ∙ List·getD-map keyOf (take count entries) i blank
 
     is : put keyOf e (take count entries) ≡ set (take count entries) i e
     is = put-found keyOf blank e (take count entries) i at
@@ -218,7 +213,7 @@ module _ {E : Type 0} (cap : ℕ) (keyOf : E → ℕ) (blank : E) (xs : List E) 
   key-at : (i : ℕ) → i < length xs → getD (pad cap 0 (map keyOf xs)) i 0 ≡ keyOf (getD xs i blank)
   key-at i l =
       getD-pad cap i 0 (map keyOf xs) (omega (arith, as-many)) (omega (arith, as-many, h .small))
-      ∙ same-default (map keyOf xs) i 0 (keyOf blank) (omega (arith, as-many))
+      ∙ any-default (map keyOf xs) i 0 (keyOf blank) (omega (arith, as-many))
       ∙ List·getD-map keyOf xs i blank
 
   -- the padded rows are a well-formed table, whose rows they are

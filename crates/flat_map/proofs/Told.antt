@@ -10,45 +10,28 @@ use lib.Dec.{eqb, ltb, leb}
 use lib.ListN.{length, getD, drop}
 use borrow.Author.Tests.{eqb-true, eq-eqb, ltb-true, lt-ltb, leb-true, le-leb}
 use Rattle.standard.specs.Tells.{Tells}
-use Rattle.standard.proofs.Tells.{yes-so, not-so}
+use Rattle.standard.proofs.Tells.{yes-so, not-so, tells-both, tells-eq, tells-so}
 use Rattle.flat_map.specs.Table.{sameKeys, every}
-
-pub both-told : {P Q : Type 0} {a b : Bool} → Tells P a → Tells Q b → Tells (P × Q) (a && b)
-both-told {a = true} {b = b} s t = record { fact = λ e. (s .fact refl, t .fact e); flag = λ p. t .flag (p .1) }
-both-told {a = false} {b = b} s t = record { fact = λ e. absurd (false≢true e); flag = λ p. s .flag (p .0) }
-
-pub eq-told : (a b : ℕ) → Tells (a ≡ b) (eqb a b)
-eq-told a b = record { fact = eqb-true a b; flag = eq-eqb a b }
-
-pub lt-told : (a b : ℕ) → Tells (a < b) (ltb a b)
-lt-told a b = record { fact = ltb-true a b; flag = lt-ltb a b }
-
-pub le-told : (a b : ℕ) → Tells (a ≤ b) (leb a b)
-le-told a b = record { fact = leb-true a b; flag = le-leb a b }
-
--- the same question in other words
-pub told-as : {P Q : Type 0} {a : Bool} → (P → Q) → (Q → P) → Tells P a → Tells Q a
-told-as there back t = record { fact = λ e. there (t .fact e); flag = λ q. t .flag (back q) }
 
 pub same-told : (xs ys : List ℕ) → Tells (xs ≡ ys) (sameKeys xs ys)
 same-told [] [] = yes-so refl
 same-told [] (y ∷ ys) = not-so (λ e. let z : _≡_ {A = ℕ} 0 1 = cc in omega arith)
 same-told (x ∷ xs) [] = not-so (λ e. let z : _≡_ {A = ℕ} 0 1 = cc in omega arith)
-same-told (x ∷ xs) (y ∷ ys) = told-as (λ p. λ z. p .0 z ∷ p .1 z) (λ e. (cc, cc)) (both-told (eq-told x y) (same-told xs ys))
+same-told (x ∷ xs) (y ∷ ys) = tells-so (λ p. λ z. p .0 z ∷ p .1 z) (λ e. (cc, cc)) (tells-both (tells-eq x y) (same-told xs ys))
 
 -- every element from n on is b, where the test tells b
 pub every-told : {A : Type 0} (b : A) (test : A → Bool) → ((x : A) → Tells (x ≡ b) (test x)) → (xs : List A) (n : ℕ)
     → Tells ((i : ℕ) → n ≤ i → getD xs i b ≡ b) (every test (drop n xs))
 every-told b test t [] zero = yes-so (λ i h. refl)
 every-told b test t [] (suc n) = yes-so (λ i h. refl)
-every-told b test t (x ∷ xs) zero = told-as all parts (both-told (t x) (every-told b test t xs zero)) where
+every-told b test t (x ∷ xs) zero = tells-so all parts (tells-both (t x) (every-told b test t xs zero)) where
   all : (x ≡ b) × ((i : ℕ) → zero ≤ i → getD xs i b ≡ b) → (i : ℕ) → zero ≤ i → getD (x ∷ xs) i b ≡ b
   all p zero h = p .0
   all p (suc i) h = p .1 i zero-le
 
   parts : ((i : ℕ) → zero ≤ i → getD (x ∷ xs) i b ≡ b) → (x ≡ b) × ((i : ℕ) → zero ≤ i → getD xs i b ≡ b)
   parts q = (q 0 zero-le, λ i h. q (suc i) zero-le)
-every-told b test t (x ∷ xs) (suc n) = told-as all rest (every-told b test t xs n) where
+every-told b test t (x ∷ xs) (suc n) = tells-so all rest (every-told b test t xs n) where
   all : ((i : ℕ) → n ≤ i → getD xs i b ≡ b) → (i : ℕ) → suc n ≤ i → getD (x ∷ xs) i b ≡ b
   all p zero h = absurd (omega arith)
   all p (suc i) h = p i (le-of-suc-le-suc h)

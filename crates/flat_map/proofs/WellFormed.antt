@@ -10,10 +10,12 @@ use lib.ListN.{length, take, getD, length-map, List·getD-map}
 use lib.Seq.{length-take-le, getD-take}
 use Rattle.standard.specs.Ordered.{Asc}
 use Rattle.standard.specs.Tells.{Tells}
+use Rattle.standard.proofs.Tells.{tells-both, tells-eq, tells-le, tells-so}
 use Rattle.flat_map.specs.Table.{Rising, ZeroFrom, Formed, formed}
+use Rattle.flat_map.proofs.Lists.{any-default}
 use Rattle.flat_map.proofs.Order.{asc-rising, asc-told}
-use Rattle.flat_map.proofs.Table.{same-default, keys-rows, keys-ascend}
-use Rattle.flat_map.proofs.Told.{both-told, eq-told, le-told, same-told, every-told, told-as}
+use Rattle.flat_map.proofs.Table.{keys-rows, keys-ascend}
+use Rattle.flat_map.proofs.Told.{same-told, every-told}
 
 module _ {E : Type 0} (cap : ℕ) (keyOf : E → ℕ) (blank : E) (keys : List ℕ) (entries : List E) (count : ℕ) where
   -- what the test goes through, in its order
@@ -45,7 +47,7 @@ module _ {E : Type 0} (cap : ℕ) (keyOf : E → ℕ) (blank : E) (keys : List �
     own i l =
         sym (getD-take count keys i 0 l)
         ∙ ap (λ (ks : List ℕ). getD ks i 0) same
-        ∙ same-default (map keyOf (take count entries)) i 0 (keyOf blank) (omega (arith, m))
+        ∙ any-default (map keyOf (take count entries)) i 0 (keyOf blank) (omega (arith, m))
         ∙ List·getD-map keyOf (take count entries) i blank
         ∙ ap keyOf (getD-take count entries i blank l)
 
@@ -72,11 +74,11 @@ module _ {E : Type 0} (cap : ℕ) (keyOf : E → ℕ) (blank : E) (keys : List �
   pub formed-told : (isBlank : E → Bool) → ((x : E) → Tells (x ≡ blank) (isBlank x)) → Tells (Formed cap keyOf blank keys entries count) (formed cap keyOf isBlank keys entries count)
   unfolding formed
   formed-told isBlank t =
-      told-as there back
-      (both-told (eq-told (length keys) cap)
-      (both-told (eq-told (length entries) cap)
-      (both-told (le-told count cap)
-      (both-told (asc-told (take count keys))
-      (both-told (same-told (take count keys) (map keyOf (take count entries)))
-      (both-told (every-told 0 (eqb 0) (λ x. told-as sym sym (eq-told 0 x)) keys count)
+      tells-so there back
+      (tells-both (tells-eq (length keys) cap)
+      (tells-both (tells-eq (length entries) cap)
+      (tells-both (tells-le count cap)
+      (tells-both (asc-told (take count keys))
+      (tells-both (same-told (take count keys) (map keyOf (take count entries)))
+      (tells-both (every-told 0 (eqb 0) (λ x. tells-so sym sym (tells-eq 0 x)) keys count)
       (every-told blank isBlank t entries count)))))))

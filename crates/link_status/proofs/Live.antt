@@ -11,9 +11,8 @@ use lib.ListN.{length, take, drop, getD, set}
 use lib.Seq.{length-take-le, getD-take, take-suc-set}
 use Rattle.types.specs.declared.Nwk.{Nwk}
 use Rattle.standard.specs.Query.{someFits}
-use Rattle.standard.proofs.Tells.{tells-one, tells-true}
+use Rattle.standard.proofs.Tells.{tells-one, tells-true, tells-both, tells-eq, tells-so}
 use Rattle.flat_map.proofs.Query.{rest-step, rest-done}
-use Rattle.flat_map.proofs.Told.{both-told, eq-told, told-as}
 use Rattle.neighbor_table.specs.declared.NeighborEntry.{NeighborEntry}
 use Rattle.neighbor_queries.specs.Filter.{fits, isLive}
 use Rattle.neighbor_queries.specs.declared.Filter.the-variants.{LiveLinkAt}
@@ -21,8 +20,8 @@ use Rattle.link_status.specs.Statuses.{isLiveAt, liveNumber, among}
 
 -- the number of a live link to an address
 same-number : (m a : ℕ) (b : Bool) → eqb (cond b (m * 2 + 1) (m * 2)) (a * 2 + 1) ≡ (eqb m a && b)
-same-number m a true = tells-one (told-as (λ e. (omega arith, refl)) (λ p. omega (arith, p .0)) (eq-told (m * 2 + 1) (a * 2 + 1))) (both-told (eq-told m a) (tells-true true))
-same-number m a false = tells-one (told-as (λ e. absurd (omega arith)) (λ p. absurd (false≢true (p .1))) (eq-told (m * 2) (a * 2 + 1))) (both-told (eq-told m a) (tells-true false))
+same-number m a true = tells-one (tells-so (λ e. (omega arith, refl)) (λ p. omega (arith, p .0)) (tells-eq (m * 2 + 1) (a * 2 + 1))) (tells-both (tells-eq m a) (tells-true true))
+same-number m a false = tells-one (tells-so (λ e. absurd (omega arith)) (λ p. absurd (false≢true (p .1))) (tells-eq (m * 2) (a * 2 + 1))) (tells-both (tells-eq m a) (tells-true false))
 
 pub among-live : (nwk : Nwk) (xs : List NeighborEntry) → among (nwk .0 * 2 + 1) (map liveNumber xs) ≡ isLiveAt xs nwk
 unfolding someFits fits

@@ -1,5 +1,5 @@
 -- What a link status command leaves: the sender's entry, the waiting samples, and whether the link is lost.
--- Document 01, "Decision (001) and neighbours (003)", third paragraph; "Refusal numbers": 10, 8, 11, 5, 4.
+-- Document 01, "Decision (001) and neighbours (003)", third paragraph; "Refusal numbers": 10, 8, 11, 5, 4. 05-3474, section 3.6.4.4.2.
 -- Assumes nothing.
 use Prim.Native.Nat.{ℕ}
 use mathlib.Core.Bool.{Bool, true, cond, not, _&&_, _||_}

@@ -2,6 +2,7 @@
 -- Document 01, "Decision (001) and neighbours (003)": "Entries with outgoing cost above 0 add 7 less the larger cost, stopping at
 -- 255; diversity adds only for addresses without a live link before the call. A mention of the own address makes its incoming cost
 -- our outgoing cost; the last mention wins."
+-- Assumes nothing.
 use Prim.Native.Nat.{ℕ, _+_, _-_, _*_, min, max}
 use mathlib.Core.Bool.{Bool, cond, not, _&&_}
 use mathlib.Core.List.{List, [], _∷_}

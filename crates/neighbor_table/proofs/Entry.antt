@@ -5,8 +5,7 @@ use native.Mathlib.Omega.{arith}
 use mathlib.Core.Bool.{Bool, true, false, not, true≢false}
 use mathlib.Core.Path.{_≡_, refl, ap}
 use Rattle.standard.specs.Tells.{Tells}
-use Rattle.standard.proofs.Tells.{yes-so, not-so}
-use Rattle.flat_map.proofs.Told.{both-told, eq-told, told-as}
+use Rattle.standard.proofs.Tells.{yes-so, not-so, tells-both, tells-eq, tells-so, tells-false}
 use Rattle.ring_buffer.specs.Ring as ring
 use Rattle.ring_buffer.proofs.Fresh.{tells-fresh}
 use Rattle.neighbor_table.specs.declared.NwkDeviceType.{NwkDeviceType}
@@ -34,10 +33,6 @@ parent-is LostChild e = absurd (omega arith)
 parent-is AddressConflictChild e = absurd (omega arith)
 parent-is BackboneMeshSibling e = absurd (omega arith)
 
-clear-told : (b : Bool) → Tells (b ≡ false) (not b)
-clear-told true = not-so (λ e. true≢false e)
-clear-told false = yes-so refl
-
 -- what the test of the times, counters and flags goes through, in its order
 abbrev Quiet : NeighborEntry → Type 0
 Quiet e =
@@ -62,7 +57,7 @@ Quiet e =
 quiet-told : (e : NeighborEntry) → Tells (Quiet e) (quiet e)
 unfolding quiet
 quiet-told e =
-    both-told (both-told (both-told (both-told (both-told (both-told (both-told (both-told (both-told (both-told (both-told (both-told (both-told (both-told (both-told (both-told (eq-told (e .«end_device_configuration») 0) (eq-told (e .«timeout_at») 0)) (eq-told (e .«device_timeout») 0)) (eq-told (e .«transmit_failure») 0)) (eq-told (e .«last_link_status_timestamp») 0)) (eq-told (e .«incoming_beacon_timestamp») 0)) (eq-told (e .«beacon_transmission_time_offset») 0)) (eq-told (e .«mac_unicast_bytes_transmitted») 0)) (eq-told (e .«mac_unicast_bytes_received») 0)) (eq-told (e .«router_added_timestamp») 0)) (eq-told (e .«router_connectivity») 0)) (eq-told (e .«router_neighbor_set_diversity») 0)) (eq-told (e .«router_outbound_activity») 0)) (eq-told (e .«router_inbound_activity») 0)) (eq-told (e .«security_timer») 0)) (clear-told (e .«rx_on_when_idle»))) (clear-told (e .«keepalive_received»))
+    tells-both (tells-both (tells-both (tells-both (tells-both (tells-both (tells-both (tells-both (tells-both (tells-both (tells-both (tells-both (tells-both (tells-both (tells-both (tells-both (tells-eq (e .«end_device_configuration») 0) (tells-eq (e .«timeout_at») 0)) (tells-eq (e .«device_timeout») 0)) (tells-eq (e .«transmit_failure») 0)) (tells-eq (e .«last_link_status_timestamp») 0)) (tells-eq (e .«incoming_beacon_timestamp») 0)) (tells-eq (e .«beacon_transmission_time_offset») 0)) (tells-eq (e .«mac_unicast_bytes_transmitted») 0)) (tells-eq (e .«mac_unicast_bytes_received») 0)) (tells-eq (e .«router_added_timestamp») 0)) (tells-eq (e .«router_connectivity») 0)) (tells-eq (e .«router_neighbor_set_diversity») 0)) (tells-eq (e .«router_outbound_activity») 0)) (tells-eq (e .«router_inbound_activity») 0)) (tells-eq (e .«security_timer») 0)) (tells-false (e .«rx_on_when_idle»))) (tells-false (e .«keepalive_received»))
 
 -- the whole test, with `Quiet` at its end
 abbrev Cleared : NeighborEntry → Type 0
@@ -78,7 +73,7 @@ Cleared e =
 cleared-told : (e : NeighborEntry) → Tells (Cleared e) (isBlank e)
 unfolding isBlank
 cleared-told e =
-    both-told (both-told (both-told (both-told (both-told (both-told (eq-told (e .«extended_address» .0) 0) (eq-told (e .«network_address» .0) 0)) (eq-told (e .«outgoing_cost») 0)) (eq-told (deviceTypeNumber (e .«device_type»)) 0)) (eq-told (relationshipNumber (e .relationship)) 0)) (tells-fresh (e .lqas))) (quiet-told e)
+    tells-both (tells-both (tells-both (tells-both (tells-both (tells-both (tells-eq (e .«extended_address» .0) 0) (tells-eq (e .«network_address» .0) 0)) (tells-eq (e .«outgoing_cost») 0)) (tells-eq (deviceTypeNumber (e .«device_type»)) 0)) (tells-eq (relationshipNumber (e .relationship)) 0)) (tells-fresh (e .lqas))) (quiet-told e)
 
 blank-is : (e : NeighborEntry) → Cleared e → e ≡ blankNeighbor
 blank-is e ((((((x, y), z), u), s), w), ((((((((((((((((a, b), c), d), f), g), h), i), j), k), l), m), n), o), p), q), r)) = λ t. record {

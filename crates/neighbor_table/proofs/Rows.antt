@@ -11,7 +11,7 @@ use Rattle.standard.specs.Ordered.{lookup, put, remove, keep, countWith}
 use Rattle.standard.specs.Query.{first}
 use Rattle.standard.specs.Rows.{putBack}
 use Rattle.standard.specs.Tells.{Tells}
-use Rattle.standard.proofs.Tells.{tells-true}
+use Rattle.standard.proofs.Tells.{tells-true, tells-both, tells-so}
 use Rattle.flat_map.specs.Table.{Fit, Holds, every}
 use Rattle.flat_map.proofs.Every.{every-lookup, every-put, every-remove, every-keep, every-map}
 use Rattle.flat_map.proofs.Filter.{first-lookup}
@@ -19,7 +19,6 @@ use Rattle.flat_map.proofs.Lists.{any-default}
 use Rattle.flat_map.proofs.Query.{next-row, no-row}
 use Rattle.flat_map.proofs.Table.{view, fit, formed-rows, rows-back, rows-length}
 use Rattle.flat_map.proofs.Ordered.{ascending-put, length-put, ascending-remove, length-remove, ascending-keep, length-keep, ascending-map, lookup-key, count-with-found}
-use Rattle.flat_map.proofs.Told.{both-told, told-as}
 use Rattle.flat_map.proofs.WellFormed as tests
 use Rattle.neighbor_table.specs.declared.NeighborEntry.{NeighborEntry}
 use Rattle.neighbor_table.specs.declared.NeighborTable.{NeighborTable}
@@ -33,8 +32,8 @@ formed-told t = tests.formed-told 64 neighborKey blankNeighbor (t .keys) (t .ent
 
 pub well-formed-told : (t : NeighborTable) → Tells (WellFormed t) (wellFormed t)
 well-formed-told t =
-    told-as (λ p. record { formed = p .0; sound = p .1 }) (λ w. (w .formed, w .sound))
-    (both-told (formed-told t) (tells-true (every isSound (rowsOf t))))
+    tells-so (λ p. record { formed = p .0; sound = p .1 }) (λ w. (w .formed, w .sound))
+    (tells-both (formed-told t) (tells-true (every isSound (rowsOf t))))
 
 pub as-table : (t : NeighborTable) (xs : List NeighborEntry) → Holds 64 neighborKey blankNeighbor (t .keys) (t .entries) (t .count) xs → t ≡ tableOf xs
 unfolding tableOf

@@ -6,8 +6,8 @@ use mathlib.Core.Option.{Option, none, some}
 use mathlib.Core.Path.{_≡_, refl, sym, ap, _∙_}
 use Rattle.standard.specs.Query.{first, someFits}
 use Rattle.standard.specs.Tells.{Tells}
+use Rattle.standard.proofs.Tells.{tells-both, tells-so}
 use Rattle.flat_map.proofs.Filter.{some-none, some-first}
-use Rattle.flat_map.proofs.Told.{both-told, told-as}
 use Rattle.neighbor_table.specs.declared.NeighborEntry.{NeighborEntry}
 use Rattle.neighbor_table.specs.Table.{looked}
 use Rattle.neighbor_table.proofs.Rows as neighbours
@@ -18,8 +18,8 @@ use Rattle.neighbors.specs.State.{WellFormed, wellFormed}
 pub well-formed-told : (s : Neighbors) → Tells (WellFormed s) (wellFormed s)
 unfolding wellFormed
 well-formed-told s =
-    told-as (λ p. record { table = p .0; pending = p .1 }) (λ w. (w .table, w .pending))
-    (both-told (neighbours.well-formed-told (s .table)) (waiting.well-formed-told (s .«pending_lqas»)))
+    tells-so (λ p. record { table = p .0; pending = p .1 }) (λ w. (w .table, w .pending))
+    (tells-both (neighbours.well-formed-told (s .table)) (waiting.well-formed-told (s .«pending_lqas»)))
 
 -- what a test that came out one way picks
 pub picks-first : {A : Type 0} {b : Bool} (x y : A) → b ≡ true → cond b x y ≡ x

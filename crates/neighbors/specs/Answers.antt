@@ -1,4 +1,5 @@
 -- What a call answers about a neighbour that was looked up, and what it answers where it is refused.
+-- Document 01, "Refusal numbers".
 -- Assumes nothing.
 use mathlib.Core.Bool.{Bool, cond, not, _&&_}
 use mathlib.Core.List.{[]}

@@ -1,9 +1,9 @@
 -- The decision on the next hop of a unicast: the first of six steps that gives an answer, and what is left where none does.
--- Document 01, "Decision": "Order: direct mode; forced host route; end device child (not merely any child); concentrator's route to D;
+-- Document 01, "Decision (001) and neighbours (003)": "Order: direct mode; forced host route; end device child (not merely any child); concentrator's route to D;
 -- Active route; hint; then discard if discovery is suppressed, else discovery needed."
 -- 05-3474, the section on a unicast frame (3.6.3.3 and 3.6.4.3 in the Rust's comments): a child, a route of the table, discovery if it is allowed.
 -- Departures of the Rust from it, each a step of its own: `directStep`, `forcedStep` and `hintStep` are wishes of the host, which the standard
--- has not; `recordStep` goes before `activeStep`, where the standard asks the routing table first; a policy may pass over both.
+-- does not have; `recordStep` goes before `activeStep`, where the standard asks the routing table first; a policy may pass over both.
 -- Assumes nothing.
 use Prim.Native.Nat.{ℕ, _-_}
 use mathlib.Core.Bool.{Bool, true, false, cond, not, _&&_, _||_}

@@ -1,5 +1,5 @@
 -- What a decision may do to a header: nothing, or a source route set in it.
--- Document 01, "Decision": "A source route sets flag, relay list, index n - 1 and suppressed discovery; .. Nothing else in the header changes."
+-- Document 01, "Decision (001) and neighbours (003)": "A source route sets flag, relay list, index n - 1 and suppressed discovery; .. Nothing else in the header changes."
 -- Assumes nothing.
 use Prim.Native.Nat.{ℕ}
 use mathlib.Core.List.{List}

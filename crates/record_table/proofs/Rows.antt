@@ -5,28 +5,28 @@ use mathlib.Core.Path.{_≡_, ap}
 use Rattle.standard.specs.Tells.{Tells}
 use Rattle.standard.specs.declared.RecordEntry.{RecordEntry}
 use Rattle.standard.specs.Record.{recordKey, FewRelays, fewRelays}
+use Rattle.standard.proofs.Tells.{tells-both, tells-eq, tells-le, tells-so}
 use Rattle.flat_map.specs.Table.{Fit, Holds, Each}
 use Rattle.flat_map.proofs.Each.{each-told}
 use Rattle.flat_map.proofs.Table.{view, fit, formed-rows, rows-back}
-use Rattle.flat_map.proofs.Told.{both-told, eq-told, le-told, told-as}
 use Rattle.flat_map.proofs.WellFormed.{formed-told}
 use Rattle.record_table.specs.declared.RecordTable.{RecordTable}
 use Rattle.record_table.specs.Table.{blankRecord, isBlank, WellFormed, wellFormed, rowsOf, tableOf}
 
 pub blank-told : (e : RecordEntry) → Tells (e ≡ blankRecord) (isBlank e)
 blank-told e =
-    told-as
+    tells-so
     (λ p. λ z. record { destination = record { 0 = p .0 z }; «relay_count» = p .1 z })
     (λ q. (ap (λ (x : RecordEntry). x .destination .0) q, ap (λ (x : RecordEntry). x .«relay_count») q))
-    (both-told (eq-told (e .destination .0) 0) (eq-told (e .«relay_count») 0))
+    (tells-both (tells-eq (e .destination .0) 0) (tells-eq (e .«relay_count») 0))
 
 few-told : (e : RecordEntry) → Tells (FewRelays e) (fewRelays e)
-few-told e = le-told (e .«relay_count») 32
+few-told e = tells-le (e .«relay_count») 32
 
 pub well-formed-told : (t : RecordTable) → Tells (WellFormed t) (wellFormed t)
 well-formed-told t =
-    told-as (λ p. record { formed = p .0; few = p .1 }) (λ w. (w .formed, w .few))
-    (both-told (formed-told 64 recordKey blankRecord (t .keys) (t .entries) (t .count) isBlank blank-told)
+    tells-so (λ p. record { formed = p .0; few = p .1 }) (λ w. (w .formed, w .few))
+    (tells-both (formed-told 64 recordKey blankRecord (t .keys) (t .entries) (t .count) isBlank blank-told)
     (each-told FewRelays fewRelays few-told (rowsOf t)))
 
 pub as-table : (t : RecordTable) (xs : List RecordEntry) → Holds 64 recordKey blankRecord (t .keys) (t .entries) (t .count) xs → t ≡ tableOf xs

@@ -10,15 +10,15 @@ use mathlib.Core.Path.{sym, subst}
 use lib.Dec.{eqb}
 use lib.ListN.{length}
 use Rattle.standard.specs.Tells.{Tells}
-use Rattle.standard.proofs.Tells.{yes-so}
+use Rattle.standard.proofs.Tells.{yes-so, tells-both, tells-eq, tells-so}
 use Rattle.flat_map.specs.Table.{ZeroFrom}
-use Rattle.flat_map.proofs.Told.{both-told, eq-told, every-told, told-as}
+use Rattle.flat_map.proofs.Told.{every-told}
 use Rattle.record_table.specs.declared.RecordTable.{RecordTable}
 use Rattle.relay_store.specs.Store.{rowAt, relayCount, Agrees, agrees, allBelow}
 
 pub below-told : (P : ℕ → Type 0) (test : ℕ → Bool) → ((i : ℕ) → Tells (P i) (test i)) → (n : ℕ) → Tells ((i : ℕ) → i < n → P i) (allBelow n test)
 below-told P test t zero = yes-so (λ i l. absurd (not-suc-le-zero l))
-below-told P test t (suc n) = told-as all parts (both-told (t n) (below-told P test t n)) where
+below-told P test t (suc n) = tells-so all parts (tells-both (t n) (below-told P test t n)) where
   all : P n × ((i : ℕ) → i < n → P i) → (i : ℕ) → i < suc n → P i
   all p i l = ⊎-elim (λ e. subst P (sym e) (p .0)) (λ h. p .1 i h) (eq-or-lt-of-le (le-of-suc-le-suc l))
 
@@ -28,6 +28,6 @@ below-told P test t (suc n) = told-as all parts (both-told (t n) (below-told P t
 pub agrees-told : (t : RecordTable) (store : List ℕ) → Tells (Agrees t store) (agrees t store)
 unfolding agrees
 agrees-told t store =
-    told-as (λ p. record { places = p .0; zeros = p .1 }) (λ a. (a .places, a .zeros))
-    (both-told (eq-told (length store) 2048)
-    (below-told (λ i. ZeroFrom (rowAt i store) (relayCount t i)) _ (λ i. every-told 0 (eqb 0) (λ x. told-as sym sym (eq-told 0 x)) (rowAt i store) (relayCount t i)) 64))
+    tells-so (λ p. record { places = p .0; zeros = p .1 }) (λ a. (a .places, a .zeros))
+    (tells-both (tells-eq (length store) 2048)
+    (below-told (λ i. ZeroFrom (rowAt i store) (relayCount t i)) _ (λ i. every-told 0 (eqb 0) (λ x. tells-so sym sym (tells-eq 0 x)) (rowAt i store) (relayCount t i)) 64))

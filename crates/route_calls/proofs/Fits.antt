@@ -11,7 +11,8 @@ use lib.ListN.{length}
 use Rattle.types.specs.declared.Nwk.{Nwk}
 use Rattle.standard.specs.declared.RouteEntry.{RouteEntry}
 use Rattle.standard.specs.declared.Status.the-variants.{DiscoveryFailed}
-use Rattle.standard.specs.Calls.{changedTo, changeRoute, restored, restoreRoute, sought, noteRelayed}
+use Rattle.standard.specs.Rows.{putBack}
+use Rattle.standard.specs.Calls.{changeRoute, restored, restoreRoute, sought, noteRelayed}
 use Rattle.standard.specs.Ordered.{Ascending, lookup}
 use Rattle.standard.specs.Route.{routeKey, routeOr, withStatus, used, recordKnown}
 use Rattle.flat_map.specs.Table.{Fit}
@@ -27,7 +28,7 @@ use Rattle.route_calls.proofs.Rules.{KeepsKey, status-key, used-key, kn
 pub change-fits : (change : RouteEntry → RouteEntry) → KeepsKey change → (k : ℕ) (xs : List RouteEntry) → Fit 64 routeKey blankRoute xs → Fit 64 routeKey blankRoute (changeRoute k change xs)
 unfolding changeRoute
 change-fits change same k xs f = go (lookup routeKey k xs) refl where
-  go : (o : Option RouteEntry) → lookup routeKey k xs ≡ o → Fit 64 routeKey blankRoute (changedTo change xs o)
+  go : (o : Option RouteEntry) → lookup routeKey k xs ≡ o → Fit 64 routeKey blankRoute (putBack routeKey change o xs)
   go none q = f
   go (some e) q = fit-put 64 routeKey blankRoute xs f (change e) (rw (same e ∙ lookup-key routeKey k xs e q) (room-known 64 routeKey blankRoute xs f k e q))
 

@@ -12,7 +12,8 @@ use Rattle.types.specs.declared.Nwk.{Nwk}
 use Rattle.types.specs.declared.Refusal.the-variants.{RouteTableFull}
 use Rattle.standard.specs.declared.RouteEntry.{RouteEntry}
 use Rattle.standard.specs.declared.DiscoveryEntry.{DiscoveryEntry}
-use Rattle.standard.specs.Calls.{changedTo, changeRoute, restored, restoreRoute, sought, noteRelayed, lacksHop, isOrphan, isFaulty, firstFault}
+use Rattle.standard.specs.Rows.{putBack}
+use Rattle.standard.specs.Calls.{changeRoute, restored, restoreRoute, sought, noteRelayed, lacksHop, isOrphan, isFaulty, firstFault}
 use Rattle.standard.specs.Ordered.{Ascending, lookup, put, countWith}
 use Rattle.standard.specs.Route.{isActive, routeKey, routeOr}
 use Rattle.flat_map.proofs.Ordered.{lookup-key, lookup-put-same, lookup-put-other, put-id, count-with-missing}
@@ -34,7 +35,7 @@ module _ (change : RouteEntry → RouteEntry) (same : KeepsKey change) (k : ℕ)
   pub change-here : lookup routeKey k (changeRoute k change xs) ≡ Option·map change (lookup routeKey k xs)
   unfolding changeRoute
   change-here = go (lookup routeKey k xs) refl where
-    go : (o : Option RouteEntry) → lookup routeKey k xs ≡ o → lookup routeKey k (changedTo change xs o) ≡ Option·map change o
+    go : (o : Option RouteEntry) → lookup routeKey k xs ≡ o → lookup routeKey k (putBack routeKey change o xs) ≡ Option·map change o
     go none q = q
     go (some e) q = ap (λ (n : ℕ). lookup routeKey n (put routeKey (change e) xs)) (sym (same e ∙ lookup-key routeKey k xs e q)) ∙ lookup-put-same routeKey (change e) xs
 
@@ -42,7 +43,7 @@ module _ (change : RouteEntry → RouteEntry) (same : KeepsKey change) (k : ℕ)
   pub change-elsewhere : (j : ℕ) → (k ≡ j → ⊥) → lookup routeKey j (changeRoute k change xs) ≡ lookup routeKey j xs
   unfolding changeRoute
   change-elsewhere j n = go (lookup routeKey k xs) refl where
-    go : (o : Option RouteEntry) → lookup routeKey k xs ≡ o → lookup routeKey j (changedTo change xs o) ≡ lookup routeKey j xs
+    go : (o : Option RouteEntry) → lookup routeKey k xs ≡ o → lookup routeKey j (putBack routeKey change o xs) ≡ lookup routeKey j xs
     go none q = refl
     go (some e) q = lookup-put-other routeKey j (change e) xs (λ p. n (sym (same e ∙ lookup-key routeKey k xs e q) ∙ p))
 

@@ -10,7 +10,8 @@ use lib.ListN.{length}
 use Rattle.types.specs.declared.Refusal.the-variants.{RouteTableFull}
 use Rattle.standard.specs.declared.RouteEntry.{RouteEntry}
 use Rattle.standard.specs.declared.Status.{Status}
-use Rattle.standard.specs.Calls.{changedTo, changeRoute, sought}
+use Rattle.standard.specs.Rows.{putBack}
+use Rattle.standard.specs.Calls.{changeRoute, sought}
 use Rattle.standard.specs.Ordered.{lookup, put, countWith}
 use Rattle.standard.specs.Route.{isActive, routeKey, withStatus, used, recordKnown}
 use Rattle.flat_map.proofs.Fits.{room-known}
@@ -46,14 +47,14 @@ module _ (t : RouteTable) (w : WellFormed t) (k : ℕ) where
   pub left-as-is : (change : RouteEntry → RouteEntry) → Missing ≡ looked (lookup routeKey k (rowsOf t)) → t ≡ tableOf (changeRoute k change (rowsOf t))
   unfolding changeRoute
   left-as-is change q =
-      table-view t w ∙ sym (ap (λ (o : Option RouteEntry). tableOf (changedTo change (rowsOf t) o)) (looked-missing (lookup routeKey k (rowsOf t)) q))
+      table-view t w ∙ sym (ap (λ (o : Option RouteEntry). tableOf (putBack routeKey change o (rowsOf t))) (looked-missing (lookup routeKey k (rowsOf t)) q))
 
   module _ (e f : RouteEntry) (q : Found e ≡ looked (lookup routeKey k (rowsOf t))) (change : RouteEntry → RouteEntry) (p : f ≡ change e) where
     pub changed : tableOf (put routeKey f (rowsOf t)) ≡ tableOf (changeRoute k change (rowsOf t))
     unfolding changeRoute
     changed =
         ap (λ (x : RouteEntry). tableOf (put routeKey x (rowsOf t))) p
-        ∙ sym (ap (λ (o : Option RouteEntry). tableOf (changedTo change (rowsOf t) o)) (looked-found (lookup routeKey k (rowsOf t)) e q))
+        ∙ sym (ap (λ (o : Option RouteEntry). tableOf (putBack routeKey change o (rowsOf t))) (looked-found (lookup routeKey k (rowsOf t)) e q))
 
     pub change-room : KeepsKey change → countWith routeKey (routeKey f) (rowsOf t) ≤ 64
     change-room same =

@@ -15,18 +15,13 @@ use Rattle.standard.specs.declared.Status.the-variants.{Active, DiscoveryUnderw
 use Rattle.standard.specs.declared.RouteEntry.{RouteEntry}
 use Rattle.standard.specs.Ordered.{Ascending}
 use Rattle.standard.specs.Route.{isActive, routeKey, decayed, unlinked}
-use Rattle.standard.proofs.Tells.{yes-so, not-so}
+use Rattle.standard.proofs.Tells.{yes-so, not-so, tells-both, tells-eq, tells-so, tells-false}
 use Rattle.flat_map.specs.Table.{Formed, Fit, Holds}
 use Rattle.flat_map.proofs.Table.{view, fit, formed-rows, rows-back}
-use Rattle.flat_map.proofs.Told.{both-told, eq-told, told-as}
 use Rattle.flat_map.proofs.WellFormed.{formed-told}
 use Rattle.route_table.specs.declared.RouteTable.{RouteTable}
 use Rattle.route_table.specs.declared.RouteLookup.the-variants.{Found, Missing}
 use Rattle.route_table.specs.Table.{blankRoute, isBlank, WellFormed, wellFormed, rowsOf, tableOf, looked}
-
-clear-told : (b : Bool) → Tells (b ≡ false) (not b)
-clear-told true = not-so (λ e. true≢false e)
-clear-told false = yes-so refl
 
 active-told : (s : Status) → Tells (s ≡ Active) (isActive s)
 active-told Active = yes-so refl
@@ -97,16 +92,16 @@ cleared e q = (
 pub blank-told : (e : RouteEntry) → Tells (e ≡ blankRoute) (isBlank e)
 unfolding Cleared
 blank-told e =
-    told-as (blank-is e) (cleared e)
-    (both-told (eq-told (e .destination .0) 0)
-    (both-told (eq-told (e .«next_hop_address» .0) 0)
-    (both-told (eq-told (e .«path_cost») 0)
-    (both-told (eq-told (e .«total_usage_count») 0)
-    (both-told (eq-told (e .«recent_activity») 0)
-    (both-told (clear-told (e .«no_route_cache»))
-    (both-told (clear-told (e .«many_to_one»))
-    (both-told (clear-told (e .«route_record_required»))
-    (both-told (clear-told (e .expired))
+    tells-so (blank-is e) (cleared e)
+    (tells-both (tells-eq (e .destination .0) 0)
+    (tells-both (tells-eq (e .«next_hop_address» .0) 0)
+    (tells-both (tells-eq (e .«path_cost») 0)
+    (tells-both (tells-eq (e .«total_usage_count») 0)
+    (tells-both (tells-eq (e .«recent_activity») 0)
+    (tells-both (tells-false (e .«no_route_cache»))
+    (tells-both (tells-false (e .«many_to_one»))
+    (tells-both (tells-false (e .«route_record_required»))
+    (tells-both (tells-false (e .expired))
     (active-told (e .status)))))))))))
 
 pub well-formed-told : (t : RouteTable) → Tells (WellFormed t) (wellFormed t)

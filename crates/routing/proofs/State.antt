@@ -3,7 +3,7 @@
 use mathlib.Core.Bool.{true}
 use mathlib.Core.Path.{_≡_, refl}
 use Rattle.standard.specs.Tells.{Tells}
-use Rattle.flat_map.proofs.Told.{both-told, told-as}
+use Rattle.standard.proofs.Tells.{tells-both, tells-so}
 use Rattle.route_table.specs.Table as route-spec
 use Rattle.discovery_table.specs.Table as discovery-spec
 use Rattle.record_table.specs.Table as record-spec
@@ -19,11 +19,11 @@ use Rattle.routing.specs.State.{WellFormed, wellFormed, fresh, searchOf,
 pub state-told : (s : Routing) → Tells (WellFormed s) (wellFormed s)
 unfolding wellFormed
 state-told s =
-    told-as
+    tells-so
     (λ p. record { routes = p .0; discoveries = p .1 .0; records = p .1 .1 })
     (λ w. (w .routes, (w .discoveries, w .records)))
-    (both-told (routes.well-formed-told (s .«route_table»))
-    (both-told (discoveries.well-formed-told (s .«discovery_table»)) (records.well-formed-told (s .«route_record_table»))))
+    (tells-both (routes.well-formed-told (s .«route_table»))
+    (tells-both (discoveries.well-formed-told (s .«discovery_table»)) (records.well-formed-told (s .«route_record_table»))))
 
 pub search-formed : (s : Routing) → WellFormed s → search.WellFormed (searchOf s)
 search-formed s w = record { routes = w .routes; discoveries = w .discoveries }

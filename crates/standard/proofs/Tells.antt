@@ -2,7 +2,7 @@
 -- since each of two right answers is true wherever the other is.
 use Prim.Native.Nat.{ℕ, _≤_, _<_}
 use mathlib.Core.Path.{_≡_, refl, sym, _∙_}
-use mathlib.Core.Bool.{Bool, true, false, not, _&&_, _||_, false≢true}
+use mathlib.Core.Bool.{Bool, true, false, not, _&&_, _||_, false≢true, true≢false}
 use borrow.Author.Tests.{ltb-true, leb-true, eqb-true, lt-ltb, le-leb, eq-eqb}
 use lib.Dec.{leb, ltb, eqb}
 use Rattle.standard.specs.Tells.{Tells}
@@ -58,3 +58,8 @@ tells-so there back t = record { fact = λ e. there (t .fact e); flag = λ q. t 
 -- an answer tells that it is yes
 pub tells-true : (a : Bool) → Tells (a ≡ true) a
 tells-true a = record { fact = λ e. e; flag = λ e. e }
+
+-- and its opposite that it is no
+pub tells-false : (a : Bool) → Tells (a ≡ false) (not a)
+tells-false true = not-so (λ e. true≢false e)
+tells-false false = yes-so refl

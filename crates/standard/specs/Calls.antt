@@ -14,16 +14,12 @@ use Rattle.standard.specs.declared.DiscoveryEntry.{DiscoveryEntry}
 use Rattle.standard.specs.Discovery.{names}
 use Rattle.standard.specs.Ordered.{lookup, put}
 use Rattle.standard.specs.Query.{first, someFits, isThere}
+use Rattle.standard.specs.Rows.{putBack}
 use Rattle.standard.specs.Route.{unknownHop, isActive, isUnderway, routeKey, routeOr, withStatus}
-
--- the rows with the row found changed; where none was found, as they are
-abbrev pub changedTo : (RouteEntry → RouteEntry) → List RouteEntry → Option RouteEntry → List RouteEntry
-changedTo change xs none = xs
-changedTo change xs (some e) = put routeKey (change e) xs
 
 -- a change of one route, on any status, if it is there: look-up and insert "have their usual map meaning"
 unfoldable pub changeRoute : ℕ → (RouteEntry → RouteEntry) → List RouteEntry → List RouteEntry
-changeRoute k change xs = changedTo change xs (lookup routeKey k xs)
+changeRoute k change xs = putBack routeKey change (lookup routeKey k xs) xs
 
 -- whether there is a route under k: what a removal reports
 unfoldable pub hasRoute : ℕ → List RouteEntry → Bool

@@ -1,6 +1,6 @@
 -- What expiry leaves of the routes and the discoveries.
 -- Document 01, "Route rules": "Expiry removes every discovery with expiration at or before now. For each removed destination that no
--- remaining discovery names, a DiscoveryUnderway route is removed."
+-- remaining discovery names, a DiscoveryUnderway route is removed." 05-3474 section 3.6.4.5.1.7.
 -- Assumes nothing.
 use Prim.Native.Nat.{ℕ}
 use mathlib.Core.Bool.{Bool, not, _&&_}

@@ -1,5 +1,6 @@
 -- The cost of a link by its quality (05-3474, 3.6.3.1). Document 01, "Decision (001) and neighbours (003)": "Link quality to cost:
 -- 0..16 is 7, 17..32 is 6, 33..64 is 5, 65..96 is 4, 97..128 is 3, 129..192 is 2, 193..255 is 1."
+-- Assumes nothing.
 use Prim.Native.Nat.{ℕ, _≤_}
 use mathlib.Core.Bool.{cond}
 use mathlib.Core.List.{List, [], _∷_}

@@ -1,5 +1,6 @@
 -- The median of a list of samples. Document 01, "Decision (001) and neighbours (003)": "For the median the three samples go by
 -- value into an array, are put in order, and the middle one is taken."
+-- Assumes nothing.
 use Prim.Native.Nat.{ℕ, suc, _/_, _≤_}
 use mathlib.Core.Bool.{cond}
 use mathlib.Core.List.{List, [], _∷_}

@@ -1,6 +1,6 @@
 -- The rule of a route reply: what is done with it, what is reported, and the tables after it.
 -- Document 01, "Route rules", "Route reply"; 05-3474 section 3.6.4.5.2 (receipt of a route reply).
--- The departures of the Rust from the specification are pieces of their own: `dropOurs`, `relayedTo`; docs/DIFFERENCES.md names them.
+-- The departures of the Rust from the specification are pieces of their own: `reply` makes no expiry, `dropOurs`, `written`; docs/DIFFERENCES.md names them.
 -- Assumes nothing.
 use Prim.Native.Nat.{ℕ}
 use mathlib.Core.Bool.{Bool, cond, _&&_}

@@ -1,5 +1,6 @@
--- What a ring of samples means: the list of the samples held, oldest first. Document 01, "Modules": it holds the "last three link
+-- What a ring of samples means: the list of the samples held, oldest first. Document 01, "Modules, leaves first": it holds the "last three link
 -- samples", and "a push overwrites the oldest of three samples".
+-- Assumes nothing.
 use Prim.Native.Nat.{ℕ, _-_}
 use mathlib.Core.List.{List, [], _∷_, _++_}
 use lib.ListN.{length, drop}

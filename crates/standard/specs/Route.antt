@@ -117,7 +117,7 @@ used e = record {
   «recent_activity» = min (e .«recent_activity» + 1) 255;
 }
 
--- "once every nwkLinkStatusPeriod" an Active route's recent activity goes down by one, and stops at 0
+-- "once every nwkLinkStatusPeriod" (the Rust's words) an Active route's recent activity goes down by one, and stops at 0
 abbrev pub decayed : RouteEntry → RouteEntry
 decayed e =
     cond (isActive (e .status))
@@ -139,7 +139,7 @@ decayed e =
 abbrev pub unlinked : Nwk → RouteEntry → RouteEntry
 unlinked hop e = cond (isActive (e .status) && eqb (e .«next_hop_address» .0) (hop .0)) (withStatus Inactive e) e
 
--- "relaying a source-routed frame proves the concentrator .. holds a route record", unless it keeps no route cache
+-- 05-3474, 3.6.4.3.2; in the Rust's words "relaying a source-routed frame proves the concentrator .. holds a route record", unless it keeps no route cache
 abbrev pub recordKnown : RouteEntry → RouteEntry
 recordKnown e =
     cond (e .«no_route_cache») e

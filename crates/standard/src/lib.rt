@@ -69,7 +69,7 @@ pub enum RouteReplyDisposition {
     Relay { next_hop: Nwk, path_cost: u8 },
 }
 
-// Relays in the order of the way, at most 32: what a list given names, whose count may pass its places, or what an answer names.
+// Relays, the one next to the destination first, at most 32: what a list given names, whose count may pass its places, or what an answer names.
 pub struct RelayList {
     pub count: usize,
     pub addresses: [Nwk; 32],

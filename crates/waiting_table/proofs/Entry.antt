@@ -2,7 +2,7 @@
 -- Assumes nothing.
 use mathlib.Core.Path.{_≡_, ap}
 use Rattle.standard.specs.Tells.{Tells}
-use Rattle.flat_map.proofs.Told.{both-told, eq-told}
+use Rattle.standard.proofs.Tells.{tells-both, tells-eq}
 use Rattle.ring_buffer.specs.Ring as ring
 use Rattle.ring_buffer.proofs.Fresh.{tells-fresh}
 use Rattle.waiting_table.specs.declared.WaitingEntry.{WaitingEntry}
@@ -13,6 +13,6 @@ blank-is e p = λ z. record { «network_address» = record { 0 = p .0 z }; lqas 
 
 pub blank-told : (e : WaitingEntry) → Tells (e ≡ blankWaiting) (isBlank e)
 blank-told e = record {
-  fact = λ t. blank-is e (both-told (eq-told (e .«network_address» .0) 0) (tells-fresh (e .lqas)) .fact t);
+  fact = λ t. blank-is e (tells-both (tells-eq (e .«network_address» .0) 0) (tells-fresh (e .lqas)) .fact t);
   flag = λ q. ap isBlank q;
 }

@@ -8,13 +8,12 @@ use mathlib.Core.Path.{_≡_, refl, sym, ap, _∙_}
 use lib.ListN.{getD}
 use Rattle.standard.specs.Ordered.{put, remove, popFirst, countWith}
 use Rattle.standard.specs.Tells.{Tells}
-use Rattle.standard.proofs.Tells.{tells-true}
+use Rattle.standard.proofs.Tells.{tells-true, tells-both, tells-so}
 use Rattle.flat_map.specs.Table.{Fit, Holds, every}
 use Rattle.flat_map.proofs.Every.{every-put, every-remove, every-pop}
 use Rattle.flat_map.proofs.Lists.{any-default, popped-length}
 use Rattle.flat_map.proofs.Table.{view, fit, formed-rows, rows-back}
 use Rattle.flat_map.proofs.Ordered.{ascending-put, length-put, ascending-remove, length-remove, ascending-pop}
-use Rattle.flat_map.proofs.Told.{both-told, told-as}
 use Rattle.flat_map.proofs.WellFormed as tests
 use Rattle.waiting_table.specs.declared.WaitingEntry.{WaitingEntry}
 use Rattle.waiting_table.specs.declared.WaitingTable.{WaitingTable}
@@ -27,8 +26,8 @@ formed-told t = tests.formed-told 64 waitingKey blankWaiting (t .keys) (t .entri
 
 pub well-formed-told : (t : WaitingTable) → Tells (WellFormed t) (wellFormed t)
 well-formed-told t =
-    told-as (λ p. record { formed = p .0; sound = p .1 }) (λ w. (w .formed, w .sound))
-    (both-told (formed-told t) (tells-true (every isSound (rowsOf t))))
+    tells-so (λ p. record { formed = p .0; sound = p .1 }) (λ w. (w .formed, w .sound))
+    (tells-both (formed-told t) (tells-true (every isSound (rowsOf t))))
 
 pub as-table : (t : WaitingTable) (xs : List WaitingEntry) → Holds 64 waitingKey blankWaiting (t .keys) (t .entries) (t .count) xs → t ≡ tableOf xs
 unfolding tableOf

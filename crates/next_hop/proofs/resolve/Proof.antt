@@ -4,7 +4,7 @@ use borrow.Author.Needs.{needs}
 use mathlib.Core.Bool.{Bool, true, false, _&&_, _||_}
 use mathlib.Core.Path.{_≡_, refl, sym, _∙_}
 use borrow.Author.Tests.{not-true, not-false}
-use Rattle.flat_map.proofs.Told.{both-told}
+use Rattle.standard.proofs.Tells.{tells-both}
 use Rattle.relay_store.specs.Store.{agrees}
 use Rattle.relay_store.proofs.Agree.{agrees-told}
 use Rattle.routing.specs.State as routes
@@ -74,7 +74,7 @@ neither false b e = refl
 resolve-core-requires : tie.Need-resolve-core-requires
 resolve-core-requires c κs =
     let b = c .before .before .before in
-    let formed = both-told (state-told _) (well-formed-told _) .fact (good (b .before .before .before)) in
+    let formed = tells-both (state-told _) (well-formed-told _) .fact (good (b .before .before .before)) in
     let few = rw (c .before .before .names-long .ensures) at (c .if3 .left) in
     (formed .0, formed .1, agrees-told _ _ .fact (fit b), neither _ _ few)
 

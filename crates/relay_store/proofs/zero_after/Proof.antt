@@ -9,9 +9,8 @@ use borrow.Author.Count.{below-more}
 use lib.Dec.{eqb}
 use lib.ListN.{length, getD, List·getD-eq-default}
 use Rattle.standard.specs.Tells.{Tells}
-use Rattle.standard.proofs.Tells.{yes-so}
+use Rattle.standard.proofs.Tells.{yes-so, tells-both, tells-eq, tells-so}
 use Rattle.flat_map.proofs.Compare.{below-or-not}
-use Rattle.flat_map.proofs.Told.{both-told, eq-told, told-as}
 use borrow.Author.Needs.{needs}
 use native.Mathlib.Omega.{arith}
 use Rattle.relay_store.proofs.zero_after.Statement.{statement}
@@ -22,7 +21,7 @@ abbrev Zeros : List ℕ → ℕ → ℕ → Type 0
 Zeros row from i = (n : ℕ) → n < i → from ≤ n → getD row n 0 ≡ 0
 
 one-more : (row : List ℕ) (from i : ℕ) (z : Bool) → from ≤ i → Tells (Zeros row from i) z → Tells (Zeros row from (i + 1)) (z && eqb (getD row i 0) 0)
-one-more row from i z h t = told-as (λ p. below-more _ _ (p .0) (λ _. p .1)) (λ q. (λ n l g. q n (omega arith) g, q i (omega arith) h)) (both-told t (eq-told (getD row i 0) 0))
+one-more row from i z h t = tells-so (λ p. below-more _ _ (p .0) (λ _. p .1)) (λ q. (λ n l g. q n (omega arith) g, q i (omega arith) h)) (tells-both t (tells-eq (getD row i 0) 0))
 
 abbrev Inv-loop : tie.InvT-loop
 Inv-loop row from zero₀ i₀ zero i = (from ≤ i) × Tells (Zeros row from i) zero
@@ -54,7 +53,7 @@ returns : tie.Need-returns Inv-loop μ-loop
 returns c =
     let v = c .before .loop in
     let row = c .before .before .args .row .now in
-    told-as (λ p n h. ⊎-elim (λ l. p n l h) (λ g. List·getD-eq-default row 0 {n = n} (omega arith)) (below-or-not n (v .i))) (λ q n l h. q n h) (v .inv .1)
+    tells-so (λ p n h. ⊎-elim (λ l. p n l h) (λ g. List·getD-eq-default row 0 {n = n} (omega arith)) (below-or-not n (v .i))) (λ q n l h. q n h) (v .inv .1)
 
 pub zero-after-spec : {M : Type 1} → statement M
 zero-after-spec =
