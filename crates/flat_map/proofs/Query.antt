@@ -9,7 +9,7 @@ use mathlib.Core.List.{List, [], _∷_, _++_, map}
 use mathlib.Core.Option.{Option, none, some}
 use mathlib.Core.Path.{_≡_, refl, sym, ap, _∙_}
 use lib.ListN.{length, getD, take, drop, set, drop-of-length-le}
-use lib.Seq.{drop-cons}
+use lib.Seq.{drop-cons, length-take-le, getD-take}
 use Rattle.standard.specs.Ordered.{keep}
 use Rattle.standard.specs.Query.{first, someFits, countFits, changeFirst, entryAt}
 use Rattle.flat_map.specs.Rows.{pad}
@@ -25,15 +25,29 @@ module _ {A : Type 0} (xs : List A) (i : ℕ) where
   pub rest-done : length xs ≤ i → drop i xs ≡ []
   rest-done h = drop-of-length-le xs {i = i} h
 
+-- the first n elements of a list, whatever they are, gone through one after the other
+module _ {E : Type 0} (xs : List E) (n i : ℕ) (fits : n ≤ length xs) where
+  pub given-long : length (take n xs) ≡ n
+  given-long = length-take-le n xs fits
+
+  pub next-given : (d : E) → i < n → drop i (take n xs) ≡ getD xs i d ∷ drop (i + 1) (take n xs)
+  next-given d h =
+      rest-step (take n xs) i d (omega (arith, given-long))
+      ∙ ap (λ (a : E). a ∷ drop (i + 1) (take n xs)) (getD-take n xs i d h)
+
+  pub none-given : n ≤ i → drop i (take n xs) ≡ []
+  none-given h = rest-done (take n xs) i (omega (arith, given-long))
+
 -- the same of a well-formed table's rows, by what stands in its array
 module _ {E : Type 0} (cap : ℕ) (keyOf : E → ℕ) (blank : E) (keys : List ℕ) (entries : List E) (count : ℕ) (f : Formed cap keyOf blank keys entries count) (i : ℕ) where
+  room : count ≤ length entries
+  room = omega (arith, f .small, f .entry-places)
+
   pub next-row : i < count → drop i (take count entries) ≡ getD entries i blank ∷ drop (i + 1) (take count entries)
-  next-row h =
-      rest-step (take count entries) i blank (omega (arith, rows-length cap keyOf blank keys entries count f))
-      ∙ ap (λ (e : E). e ∷ drop (i + 1) (take count entries)) (sym (row-at cap keyOf blank keys entries count f i h))
+  next-row h = next-given entries count i room blank h
 
   pub no-row : count ≤ i → drop i (take count entries) ≡ []
-  no-row h = rest-done (take count entries) i (omega (arith, rows-length cap keyOf blank keys entries count f))
+  no-row h = none-given entries count i room h
 
 -- the entry at a place: the row there, or nothing from the count on
 module _ {E : Type 0} (d : E) where

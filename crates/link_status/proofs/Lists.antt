@@ -9,7 +9,7 @@ use lib.Seq.{getD-take}
 use Rattle.standard.proofs.Tells.{tells-both, tells-le}
 use Rattle.flat_map.specs.Table.{every}
 use Rattle.flat_map.proofs.Every.{every-at}
-use Rattle.neighbor_queries.proofs.Given.{given-long}
+use Rattle.flat_map.proofs.Query.{given-long}
 use Rattle.neighbor_queries.specs.declared.LinkStatus.{LinkStatus}
 use Rattle.link_status.specs.Statuses.{costsFit}
 

@@ -11,10 +11,10 @@ use Rattle.flat_map.proofs.Shift.{unmapped}
 use Rattle.neighbor_queries.specs.declared.LinkStatus.{LinkStatus}
 use Rattle.neighbor_table.specs.Table.{rowsOf}
 use Rattle.link_status.proofs.Live.{among-live}
-use Rattle.neighbor_queries.proofs.Given.{next-given, none-given}
 use Rattle.link_status.proofs.Lists.{fit-at}
 use Rattle.neighbor_queries.specs.Lists.{noStatus}
 use Rattle.types.specs.declared.Nwk.{Nwk}
+use Rattle.flat_map.proofs.Query.{next-given, none-given}
 use Rattle.link_status.specs.Statuses.{isLiveAt, among, statusesOf, counted, tallied}
 use Rattle.link_status.proofs.add_up.Statement.{statement}
 use Rattle.link_status.proofs.add_up.Tie as tie

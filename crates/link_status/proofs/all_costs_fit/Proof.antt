@@ -9,7 +9,7 @@ use native.Mathlib.Omega.{arith}
 use Rattle.flat_map.proofs.Every.{every-here, every-not, every-done}
 use Rattle.flat_map.proofs.Shift.{unmapped}
 use Rattle.flat_map.specs.Table.{every}
-use Rattle.neighbor_queries.proofs.Given.{next-given, none-given}
+use Rattle.flat_map.proofs.Query.{next-given, none-given}
 use Rattle.link_status.specs.Statuses.{costsFit, statusesOf}
 use Rattle.link_status.proofs.all_costs_fit.Statement.{statement}
 use Rattle.link_status.proofs.all_costs_fit.Tie as tie

@@ -10,7 +10,7 @@ use Rattle.flat_map.proofs.Shift.{unmapped}
 use Rattle.neighbor_table.proofs.Rows.{table-view, table-fit}
 use Rattle.neighbor_table.specs.Table.{rowsOf}
 use Rattle.types.specs.declared.Eui64.{Eui64}
-use Rattle.neighbor_queries.proofs.Given.{next-given, none-given}
+use Rattle.flat_map.proofs.Query.{next-given, none-given}
 use Rattle.parent_annce.proofs.Steps.{Settles, step-within, step-packed, ready}
 use Rattle.parent_annce.specs.Settle.{start, settleAll, settleOne, packed, stepped, settled}
 use Rattle.parent_annce.specs.declared.Settled.{Settled}
