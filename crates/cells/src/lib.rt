@@ -2,7 +2,7 @@
 // 0 a mark, 1 a version, 2 and 3 the trigger counters, 4 the last request id; then each table: its count, its keys, its rows;
 // last the 2,048 numbers of the relay store. Rows not in use stand there too, so that damage to them shows.
 ghost use mathlib.Core.Path.{_≡_};
-ghost use Prim.Native.Nat.{_<_, min};
+ghost use Prim.Native.Nat.{_<_};
 ghost use lib.Seq.{sets};
 ghost use Rattle.cells.specs.Listed.{keysAt};
 
@@ -25,13 +25,6 @@ pub const LENGTH: usize = 5450;
 pub type Keys64 = [u64; 64];
 
 pub type Keys32 = [u64; 32];
-
-// The smaller of two counts.
-pub fn at_most(n: usize, most: usize) -> usize
-    ensures { λ r. ⌜ r ≡ min n most ⌝ }
-{
-    if n < most { n } else { most }
-}
 
 // Numbers put one after another from a place on; what would stand past the end is left out.
 pub fn put_each(image: &mut [u64], base: usize, xs: &[u64])

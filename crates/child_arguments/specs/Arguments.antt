@@ -1,7 +1,7 @@
 -- What a call about children or a link status is given, read from numbers: values that may be given, lists, a child, a command.
 -- "OPT is `0` or `1 value`. LIST is `n x1 .. xn`." A count above the array's length stays as it is, and only what has a place is read.
 -- Assumes nothing.
-use Prim.Native.Nat.{ℕ, zero, suc, _+_, _*_, _%_, min}
+use Prim.Native.Nat.{ℕ, zero, suc, _+_, _*_, min}
 use mathlib.Core.Bool.{cond}
 use mathlib.Core.List.{List, [], _∷_, _++_}
 use Rattle.types.specs.declared.Eui64.{Eui64}
@@ -18,10 +18,6 @@ use Rattle.children.specs.declared.MaybeNwk.the-variants as addresses
 use Rattle.children.specs.declared.ChildDescriptor.{ChildDescriptor}
 use Rattle.link_status.specs.declared.LinkStatusCommand.{LinkStatusCommand}
 use Rattle.child_arguments.specs.declared.Poll.{Poll}
-
--- the number of 16 bits at a place
-abbrev pub shortAt : List ℕ → ℕ → ℕ
-shortAt args i = numberAt args i % 65536
 
 -- an address that may be given at a place
 abbrev pub maybeEui64At : List ℕ → ℕ → MaybeEui64

@@ -9,20 +9,13 @@ use types::Eui64;
 use types::Nwk;
 ghost use mathlib.Core.Path.{_≡_};
 ghost use Prim.Native.Nat.{_<_};
-ghost use Rattle.child_arguments.specs.Arguments.{shortAt, maybeEui64At, maybeNwkAt, past, pollOf, childOf, statusAt, namesOf, commandTo, commandOf};
+ghost use Rattle.child_arguments.specs.Arguments.{maybeEui64At, maybeNwkAt, past, pollOf, childOf, statusAt, namesOf, commandTo, commandOf};
 
 // A data poll: who may have sent it, and when.
 pub struct Poll {
     pub eui64: MaybeEui64,
     pub nwk: MaybeNwk,
     pub now: u64,
-}
-
-// The number of 16 bits at a place.
-pub fn short(args: &[u64], i: usize) -> u16
-    ensures { λ r. ⌜ r ≡ shortAt (now (args .entry)) i ⌝ }
-{
-    (numbers::at(args, i) % 65536) as u16
 }
 
 // An extended address that may be given, at a place.
@@ -94,7 +87,7 @@ pub fn names(args: &[u64]) -> Eui64List
     ensures { λ r. ⌜ r ≡ namesOf (now (args .entry)) ⌝ }
 {
     let count = numbers::at(args, 0) as usize;
-    let end = neighbor_values::at_most(count, 64);
+    let end = numbers::at_most(count, 64);
     let blank = Eui64(0);
     let mut list = Eui64List {
         count,
@@ -149,7 +142,7 @@ pub fn command(args: &[u64]) -> LinkStatusCommand
     ensures { λ r. ⌜ r ≡ commandOf (now (args .entry)) ⌝ }
 {
     let mut command = bare_command(args);
-    let end = neighbor_values::at_most(command.count, 31);
+    let end = numbers::at_most(command.count, 31);
     let mut i: usize = 0;
     while i < end {
         let status = status(args, i);

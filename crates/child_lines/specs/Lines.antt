@@ -2,7 +2,7 @@
 -- Assumes nothing.
 use Prim.Native.Nat.{ℕ}
 use mathlib.Core.List.{List}
-use Rattle.numbers.specs.Read.{numberAt, byteAt, nwkAt, eui64At}
+use Rattle.numbers.specs.Read.{numberAt, byteAt, shortAt, nwkAt, eui64At}
 use Rattle.neighbors.specs.declared.Neighbors.{Neighbors}
 use Rattle.children.specs.declared.TruthOutcome.{TruthOutcome}
 use Rattle.children.specs.declared.NwkOutcome.{NwkOutcome}
@@ -13,7 +13,7 @@ use Rattle.parent_annce.specs.Calls as announcements
 use Rattle.link_status.specs.Digest.{onLinkStatus}
 use Rattle.neighbor_answers.specs.Answers.{truthSaid, nwkSaid, childrenSaid, announcedSaid}
 use Rattle.child_arguments.specs.declared.Poll.{Poll}
-use Rattle.child_arguments.specs.Arguments.{shortAt, pollOf, childOf, namesOf, commandOf}
+use Rattle.child_arguments.specs.Arguments.{pollOf, childOf, namesOf, commandOf}
 use Rattle.neighbor_event_lines.specs.Lines.{changed}
 use Rattle.world.specs.declared.World.{World}
 use Rattle.world.specs.declared.Reply.{Reply}

@@ -69,7 +69,7 @@ pub fn set_child_timeout(world: World, args: &[u64]) -> Reply
     let state = world.neighbors;
     let nwk = numbers::nwk(args, 0);
     let timeout = numbers::at(args, 1);
-    let configuration = child_arguments::short(args, 2);
+    let configuration = numbers::short(args, 2);
     let now = numbers::at(args, 3);
     truth_reply(
         world,

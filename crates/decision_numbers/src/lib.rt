@@ -31,7 +31,7 @@ fn kind(number: u64, hop: Nwk) -> SendKind
         SendKind::Route(RouteDirective::Force(HostRoute::NextHop(hop))),
         SendKind::Route(RouteDirective::Force(HostRoute::SourceRoute)),
     ];
-    let i = neighbor_values::at_most(number as usize, 5);
+    let i = numbers::at_most(number as usize, 5);
     all[i]
 }
 
@@ -41,7 +41,7 @@ fn mode_length(number: u64, count: usize) -> usize
     ensures { λ r. ⌜ r ≡ lengthOf number count ⌝ }
 {
     let all: [usize; 6] = [1, 1, 2, 2 + count, 2, 2 + count];
-    let i = neighbor_values::at_most(number as usize, 5);
+    let i = numbers::at_most(number as usize, 5);
     all[i]
 }
 
@@ -60,7 +60,7 @@ pub fn after_mode(args: &[u64], i: usize) -> usize
     requires { ⌜ i < 8 ⌝ }
     ensures { λ r. ⌜ r ≡ pastMode (now (args .entry)) i ⌝ }
 {
-    let count = neighbor_values::at_most(numbers::at(args, i + 1) as usize, 80);
+    let count = numbers::at_most(numbers::at(args, i + 1) as usize, 80);
     let length = mode_length(numbers::at(args, i), count);
     i + length
 }

@@ -6,6 +6,7 @@ use mathlib.Core.Bool.{Bool, true, false}
 use mathlib.Core.List.{List, [], _∷_, _++_, map}
 use lib.ListN.{take}
 use Rattle.types.specs.declared.Nwk.{Nwk}
+use Rattle.numbers.specs.Said.{flagNumber}
 use Rattle.frame.specs.declared.NwkFrameType.{NwkFrameType}
 use Rattle.frame.specs.declared.NwkFrameType.the-variants.{Data, Command, Interpan}
 use Rattle.frame.specs.declared.NwkRouteDiscovery.{NwkRouteDiscovery}
@@ -28,10 +29,6 @@ discoveryNumber Suppress = 0
 discoveryNumber Enable = 1
 discoveryNumber WithMulticast = 2
 
-abbrev pub bit : Bool → ℕ
-bit true = 1
-bit false = 0
-
 -- 0 for none, else 1 and the value
 abbrev pub nameNumbers : OptionalEui64 → List ℕ
 nameNumbers name.Absent = 0 ∷ []
@@ -46,12 +43,12 @@ controlNumbers k =
     frameTypeNumber (k .«frame_type»)
     ∷ k .«protocol_version»
     ∷ discoveryNumber (k .«discover_route»)
-    ∷ bit (k .multicast)
-    ∷ bit (k .security)
-    ∷ bit (k .«source_route»)
-    ∷ bit (k .destination)
-    ∷ bit (k .«extended_source»)
-    ∷ bit (k .«end_device_initiator»)
+    ∷ flagNumber (k .multicast)
+    ∷ flagNumber (k .security)
+    ∷ flagNumber (k .«source_route»)
+    ∷ flagNumber (k .destination)
+    ∷ flagNumber (k .«extended_source»)
+    ∷ flagNumber (k .«end_device_initiator»)
     ∷ k .reserved1
     ∷ []
 

@@ -11,8 +11,8 @@ use standard::RelayList;
 use types::Nwk;
 ghost use mathlib.Core.Path.{_≡_};
 ghost use Prim.Native.Nat.{_<_};
-ghost use Rattle.numbers.specs.Said.{pushed, pushedAll};
-ghost use Rattle.frame.specs.Numbers.{bit, frameTypeNumber, discoveryNumber, nameNumbers, byteNumbers, controlNumbers, routeNumbers, headerNumbers};
+ghost use Rattle.numbers.specs.Said.{flagNumber, pushed, pushedAll};
+ghost use Rattle.frame.specs.Numbers.{frameTypeNumber, discoveryNumber, nameNumbers, byteNumbers, controlNumbers, routeNumbers, headerNumbers};
 ghost use Rattle.header_numbers.specs.Reading.{frameTypeOf, discoveryOf, controlAt, optionalEui64At, optionalByteAt, relaysAt, routeAt, headerAt};
 ghost use Rattle.header_numbers.specs.Relays.{relaysNumbers};
 
@@ -26,7 +26,7 @@ fn frame_type(number: u64) -> NwkFrameType
         NwkFrameType::Command,
         NwkFrameType::Interpan,
     ];
-    let i = neighbor_values::at_most(number as usize, 3);
+    let i = numbers::at_most(number as usize, 3);
     all[i]
 }
 
@@ -39,7 +39,7 @@ fn discovery(number: u64) -> NwkRouteDiscovery
         NwkRouteDiscovery::Enable,
         NwkRouteDiscovery::WithMulticast,
     ];
-    let i = neighbor_values::at_most(number as usize, 2);
+    let i = numbers::at_most(number as usize, 2);
     all[i]
 }
 
@@ -101,7 +101,7 @@ pub fn relays(args: &[u64], i: usize) -> RelayList
     ensures { λ r. ⌜ r ≡ relaysAt (now (args .entry)) i ⌝ }
 {
     let count = numbers::at(args, i) as usize;
-    let end = neighbor_values::at_most(count, 32);
+    let end = numbers::at_most(count, 32);
     let blank = Nwk(0);
     let mut list = RelayList {
         count,
@@ -163,7 +163,7 @@ pub fn header(args: &[u64], from: usize) -> NwkHeader
 
 // A bool more.
 fn push_bit(n: Numbers, b: bool) -> Numbers
-    ensures { λ r. ⌜ r ≡ pushed n (bit b) ⌝ }
+    ensures { λ r. ⌜ r ≡ pushed n (flagNumber b) ⌝ }
 {
     neighbor_values::push_flag(n, b)
 }
@@ -226,7 +226,7 @@ fn push_relays(n: Numbers, list: RelayList) -> Numbers
     ensures { λ r. ⌜ r ≡ pushedAll n (relaysNumbers list) ⌝ }
 {
     let count = list.count;
-    let end = neighbor_values::at_most(count, 32);
+    let end = numbers::at_most(count, 32);
     let mut m = numbers::push(n, count as u64);
     let mut i: usize = 0;
     while i < end {

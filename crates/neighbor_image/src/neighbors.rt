@@ -7,30 +7,10 @@ ghost use mathlib.Core.List.{flatMap};
 ghost use Prim.Native.Nat.{_<_, _+_, _*_};
 ghost use lib.Seq.{sets};
 ghost use Rattle.cells.specs.Listed.{listed};
+ghost use Rattle.neighbor_values.specs.Reading.{neighborAt};
 ghost use Rattle.neighbor_values.specs.Values.{neighborNumbers};
 ghost use Rattle.neighbor_values.specs.Values.{nameNumbers, samplesNumbers, linkNumbers, routerNumbers};
-ghost use Rattle.neighbor_image.specs.Neighbors.{neighborAt, neighborsAt, neighborsNumbers, samplesAt, shortAt};
-
-// The number of 16 bits at a place.
-fn short_at(image: &[u64], i: usize) -> u16
-    ensures { λ r. ⌜ r ≡ shortAt (now (image .entry)) i ⌝ }
-{
-    (numbers::at(image, i) % 65536) as u16
-}
-
-// The samples that begin at a place.
-pub fn samples_at(image: &[u64], base: usize) -> RingBuffer
-    requires { ⌜ base < 65600 ⌝ }
-    ensures { λ r. ⌜ r ≡ samplesAt (now (image .entry)) base ⌝ }
-{
-    let len = numbers::byte(image, base);
-    let next = numbers::byte(image, base + 1);
-    let first = numbers::byte(image, base + 2);
-    let second = numbers::byte(image, base + 3);
-    let third = numbers::byte(image, base + 4);
-    let values = [first, second, third];
-    RingBuffer { values, len, next }
-}
+ghost use Rattle.neighbor_image.specs.Neighbors.{neighborsAt, neighborsNumbers};
 
 // Samples put from a place on.
 pub fn write_samples(image: &mut [u64], base: usize, lqas: RingBuffer)
@@ -102,61 +82,6 @@ fn write_router(image: &mut [u64], base: usize, e: NeighborEntry)
     cells::put_each(image, base, &row);
 }
 
-// The row that begins at a place.
-fn neighbor_at(image: &[u64], base: usize) -> NeighborEntry
-    requires { ⌜ base < 65536 ⌝ }
-    ensures { λ r. ⌜ r ≡ neighborAt (now (image .entry)) base ⌝ }
-{
-    let extended_address = numbers::eui64(image, base);
-    let network_address = numbers::nwk(image, base + 1);
-    let device_type = neighbor_values::device_type(numbers::at(image, base + 2));
-    let rx_on_when_idle = numbers::flag(image, base + 3);
-    let end_device_configuration = short_at(image, base + 4);
-    let timeout_at = numbers::at(image, base + 5);
-    let device_timeout = numbers::at(image, base + 6);
-    let relationship = neighbor_values::relationship(numbers::at(image, base + 7));
-    let transmit_failure = numbers::byte(image, base + 8);
-    let lqas = samples_at(image, base + 9);
-    let outgoing_cost = numbers::byte(image, base + 14);
-    let last_link_status_timestamp = numbers::at(image, base + 15);
-    let incoming_beacon_timestamp = numbers::counter(image, base + 16);
-    let beacon_transmission_time_offset = numbers::counter(image, base + 17);
-    let keepalive_received = numbers::flag(image, base + 18);
-    let mac_unicast_bytes_transmitted = numbers::counter(image, base + 19);
-    let mac_unicast_bytes_received = numbers::counter(image, base + 20);
-    let router_added_timestamp = numbers::at(image, base + 21);
-    let router_connectivity = numbers::byte(image, base + 22);
-    let router_neighbor_set_diversity = numbers::byte(image, base + 23);
-    let router_outbound_activity = numbers::byte(image, base + 24);
-    let router_inbound_activity = numbers::byte(image, base + 25);
-    let security_timer = numbers::byte(image, base + 26);
-    NeighborEntry {
-        extended_address,
-        network_address,
-        device_type,
-        rx_on_when_idle,
-        end_device_configuration,
-        timeout_at,
-        device_timeout,
-        relationship,
-        transmit_failure,
-        lqas,
-        outgoing_cost,
-        last_link_status_timestamp,
-        incoming_beacon_timestamp,
-        beacon_transmission_time_offset,
-        keepalive_received,
-        mac_unicast_bytes_transmitted,
-        mac_unicast_bytes_received,
-        router_added_timestamp,
-        router_connectivity,
-        router_neighbor_set_diversity,
-        router_outbound_activity,
-        router_inbound_activity,
-        security_timer,
-    }
-}
-
 // A row put from a place on.
 fn write_neighbor(image: &mut [u64], base: usize, e: NeighborEntry)
     requires { ⌜ base < 65536 ⌝ }
@@ -176,7 +101,7 @@ fn neighbor_rows(image: &[u64], table: NeighborTable) -> NeighborTable
     let mut t = table;
     let mut i: usize = 0;
     while i < 64 {
-        let e = neighbor_at(image, 1225 + i * 27);
+        let e = neighbor_values::neighbor_at(image, 1225 + i * 27);
         t.entries[i] = e;
         i += 1;
     }

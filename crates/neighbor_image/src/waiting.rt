@@ -7,20 +7,8 @@ ghost use mathlib.Core.List.{flatMap};
 ghost use Prim.Native.Nat.{_<_, _+_, _*_};
 ghost use lib.Seq.{sets};
 ghost use Rattle.cells.specs.Listed.{listed};
-ghost use Rattle.neighbor_image.specs.Neighbors.{waitingEntryAt, waitingAt, waitingTableNumbers, waitingNumbers};
-
-// The row that begins at a place.
-fn waiting_entry_at(image: &[u64], base: usize) -> WaitingEntry
-    requires { ⌜ base < 65536 ⌝ }
-    ensures { λ r. ⌜ r ≡ waitingEntryAt (now (image .entry)) base ⌝ }
-{
-    let network_address = numbers::nwk(image, base);
-    let lqas = neighbors::samples_at(image, base + 1);
-    WaitingEntry {
-        network_address,
-        lqas,
-    }
-}
+ghost use Rattle.neighbor_values.specs.Reading.{waitingEntryAt};
+ghost use Rattle.neighbor_image.specs.Neighbors.{waitingAt, waitingTableNumbers, waitingNumbers};
 
 // A row put from a place on.
 fn write_waiting_entry(image: &mut [u64], base: usize, e: WaitingEntry)
@@ -40,7 +28,7 @@ fn waiting_entry_rows(image: &[u64], table: WaitingTable) -> WaitingTable
     let mut t = table;
     let mut i: usize = 0;
     while i < 64 {
-        let e = waiting_entry_at(image, 3018 + i * 6);
+        let e = neighbor_values::waiting_entry_at(image, 3018 + i * 6);
         t.entries[i] = e;
         i += 1;
     }

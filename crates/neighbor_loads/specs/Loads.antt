@@ -1,15 +1,14 @@
 -- The lines that set the neighbours up, and those that damage them: the answer and the state after each.
 -- A line is done, or no call on a state whose table has no room or is not formed. Document 01, "Capacities and clock".
 -- Assumes nothing.
-use Prim.Native.Nat.{ℕ, _+_, _%_}
+use Prim.Native.Nat.{ℕ}
 use mathlib.Core.Bool.{cond}
-use mathlib.Core.List.{List, [], _∷_}
+use mathlib.Core.List.{List, []}
 use lib.Dec.{leb}
 use lib.ListN.{set}
 use Rattle.numbers.specs.Said.{ok, bad, spoken}
-use Rattle.numbers.specs.Read.{numberAt, byteAt, counterAt, flagAt, nwkAt, eui64At}
+use Rattle.numbers.specs.Read.{numberAt}
 use Rattle.standard.specs.Ordered.{put, countWith}
-use Rattle.ring_buffer.specs.declared.RingBuffer.{RingBuffer}
 use Rattle.neighbor_table.specs.declared.NeighborEntry.{NeighborEntry}
 use Rattle.neighbor_table.specs.declared.NeighborTable.{NeighborTable}
 use Rattle.neighbor_table.specs.Entry.{neighborKey}
@@ -18,46 +17,9 @@ use Rattle.waiting_table.specs.declared.WaitingEntry.{WaitingEntry}
 use Rattle.waiting_table.specs.declared.WaitingTable.{WaitingTable}
 use Rattle.waiting_table.specs.Entry.{waitingKey}
 use Rattle.waiting_table.specs.Table as senders
-use Rattle.neighbor_values.specs.Kinds.{deviceTypeOf, relationshipOf}
+use Rattle.neighbor_values.specs.Reading.{neighborAt, waitingEntryAt}
 use Rattle.neighbors.specs.declared.Neighbors.{Neighbors}
 use Rattle.neighbor_loads.specs.declared.NeighborLoad.{NeighborLoad}
-
-abbrev pub shortAt : List ℕ → ℕ → ℕ
-shortAt args i = numberAt args i % 65536
-
--- how many samples are held, the next place, and the three places
-unfoldable pub samplesRead : List ℕ → ℕ → RingBuffer
-samplesRead args i = record { values = byteAt args (i + 2) ∷ byteAt args (i + 3) ∷ byteAt args (i + 4) ∷ []; len = byteAt args i; next = byteAt args (i + 1) }
-
-unfoldable pub neighborRead : List ℕ → NeighborEntry
-neighborRead args = record {
-  «extended_address» = eui64At args 0;
-  «network_address» = nwkAt args 1;
-  «device_type» = deviceTypeOf (numberAt args 2);
-  «rx_on_when_idle» = flagAt args 3;
-  «end_device_configuration» = shortAt args 4;
-  «timeout_at» = numberAt args 5;
-  «device_timeout» = numberAt args 6;
-  relationship = relationshipOf (numberAt args 7);
-  «transmit_failure» = byteAt args 8;
-  lqas = samplesRead args 9;
-  «outgoing_cost» = byteAt args 14;
-  «last_link_status_timestamp» = numberAt args 15;
-  «incoming_beacon_timestamp» = counterAt args 16;
-  «beacon_transmission_time_offset» = counterAt args 17;
-  «keepalive_received» = flagAt args 18;
-  «mac_unicast_bytes_transmitted» = counterAt args 19;
-  «mac_unicast_bytes_received» = counterAt args 20;
-  «router_added_timestamp» = numberAt args 21;
-  «router_connectivity» = byteAt args 22;
-  «router_neighbor_set_diversity» = byteAt args 23;
-  «router_outbound_activity» = byteAt args 24;
-  «router_inbound_activity» = byteAt args 25;
-  «security_timer» = byteAt args 26;
-}
-
-unfoldable pub waitingRead : List ℕ → WaitingEntry
-waitingRead args = record { «network_address» = nwkAt args 0; lqas = samplesRead args 1 }
 
 -- done; no call
 abbrev pub loaded : Neighbors → NeighborLoad
@@ -83,7 +45,7 @@ neighborPut e s =
     (unloaded s)
 
 unfoldable pub putNeighbor : Neighbors → List ℕ → NeighborLoad
-putNeighbor s args = neighborPut (neighborRead args) s
+putNeighbor s args = neighborPut (neighborAt args 0) s
 
 -- damage: the table's count, and the key at a place within the table
 unfoldable pub setNeighborCount : Neighbors → List ℕ → NeighborLoad
@@ -105,7 +67,7 @@ waitingPut e s =
     (unloaded s)
 
 unfoldable pub putWaiting : Neighbors → List ℕ → NeighborLoad
-putWaiting s args = waitingPut (waitingRead args) s
+putWaiting s args = waitingPut (waitingEntryAt args 0) s
 
 -- damage: the table's count, and the key at a place within the table
 unfoldable pub setWaitingCount : Neighbors → List ℕ → NeighborLoad

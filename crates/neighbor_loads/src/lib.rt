@@ -4,82 +4,15 @@ use neighbor_table::NeighborEntry;
 use neighbor_table::NeighborTable;
 use neighbors::Neighbors;
 use numbers::Answer;
-use ring_buffer::RingBuffer;
 use waiting_table::WaitingEntry;
 use waiting_table::WaitingTable;
 ghost use mathlib.Core.Path.{_≡_};
-ghost use Prim.Native.Nat.{_≤_};
-ghost use Rattle.neighbor_loads.specs.Loads.{shortAt, samplesRead, neighborRead, waitingRead, loaded, unloaded, withNeighbors, withWaiting, neighborPut, putNeighbor, waitingPut, putWaiting, setNeighborCount, setNeighborKey, setWaitingCount, setWaitingKey};
+ghost use Rattle.neighbor_loads.specs.Loads.{loaded, unloaded, withNeighbors, withWaiting, neighborPut, putNeighbor, waitingPut, putWaiting, setNeighborCount, setNeighborKey, setWaitingCount, setWaitingKey};
 
 // What a line is answered, and the state after it.
 pub struct NeighborLoad {
     pub answer: Answer,
     pub state: Neighbors,
-}
-
-// The number of 16 bits at a place.
-fn short(args: &[u64], i: usize) -> u16
-    ensures { λ r. ⌜ r ≡ shortAt (now (args .entry)) i ⌝ }
-{
-    (numbers::at(args, i) % 65536) as u16
-}
-
-// Samples: how many are held, the next place, and the three places.
-fn samples(args: &[u64], i: usize) -> RingBuffer
-    requires { ⌜ i ≤ 9 ⌝ }
-    ensures { λ r. ⌜ r ≡ samplesRead (now (args .entry)) i ⌝ }
-{
-    let len = numbers::byte(args, i);
-    let next = numbers::byte(args, i + 1);
-    let a = numbers::byte(args, i + 2);
-    let b = numbers::byte(args, i + 3);
-    let c = numbers::byte(args, i + 4);
-    RingBuffer {
-        values: [a, b, c],
-        len,
-        next,
-    }
-}
-
-// A neighbour as its line names it.
-fn neighbor(args: &[u64]) -> NeighborEntry
-    ensures { λ r. ⌜ r ≡ neighborRead (now (args .entry)) ⌝ }
-{
-    NeighborEntry {
-        extended_address: numbers::eui64(args, 0),
-        network_address: numbers::nwk(args, 1),
-        device_type: neighbor_values::device_type(numbers::at(args, 2)),
-        rx_on_when_idle: numbers::flag(args, 3),
-        end_device_configuration: short(args, 4),
-        timeout_at: numbers::at(args, 5),
-        device_timeout: numbers::at(args, 6),
-        relationship: neighbor_values::relationship(numbers::at(args, 7)),
-        transmit_failure: numbers::byte(args, 8),
-        lqas: samples(args, 9),
-        outgoing_cost: numbers::byte(args, 14),
-        last_link_status_timestamp: numbers::at(args, 15),
-        incoming_beacon_timestamp: numbers::counter(args, 16),
-        beacon_transmission_time_offset: numbers::counter(args, 17),
-        keepalive_received: numbers::flag(args, 18),
-        mac_unicast_bytes_transmitted: numbers::counter(args, 19),
-        mac_unicast_bytes_received: numbers::counter(args, 20),
-        router_added_timestamp: numbers::at(args, 21),
-        router_connectivity: numbers::byte(args, 22),
-        router_neighbor_set_diversity: numbers::byte(args, 23),
-        router_outbound_activity: numbers::byte(args, 24),
-        router_inbound_activity: numbers::byte(args, 25),
-        security_timer: numbers::byte(args, 26),
-    }
-}
-
-// A sender as its line names it.
-fn waiting(args: &[u64]) -> WaitingEntry
-    ensures { λ r. ⌜ r ≡ waitingRead (now (args .entry)) ⌝ }
-{
-    WaitingEntry {
-        network_address: numbers::nwk(args, 0),
-        lqas: samples(args, 1),
-    }
 }
 
 // The line is done.
@@ -128,7 +61,7 @@ fn load_neighbor(s: Neighbors, e: NeighborEntry) -> NeighborLoad
 pub fn put_neighbor(s: Neighbors, args: &[u64]) -> NeighborLoad
     ensures { λ r. ⌜ r ≡ putNeighbor s (now (args .entry)) ⌝ }
 {
-    let e = neighbor(args);
+    let e = neighbor_values::neighbor_at(args, 0);
     load_neighbor(s, e)
 }
 
@@ -188,7 +121,7 @@ fn load_waiting(s: Neighbors, e: WaitingEntry) -> NeighborLoad
 pub fn put_waiting(s: Neighbors, args: &[u64]) -> NeighborLoad
     ensures { λ r. ⌜ r ≡ putWaiting s (now (args .entry)) ⌝ }
 {
-    let e = waiting(args);
+    let e = neighbor_values::waiting_entry_at(args, 0);
     load_waiting(s, e)
 }
 

@@ -1,4 +1,4 @@
-// Neighbours, children, link statuses and lists of them as numbers, in the order in which a script takes and prints them.
+// Neighbours, waiting entries, children, link statuses and lists of them as numbers, in the order in which a script takes and prints them.
 use neighbor_queries::Child;
 use neighbor_queries::ChildList;
 use neighbor_queries::Eui64List;
@@ -12,19 +12,14 @@ use numbers::Numbers;
 use ring_buffer::RingBuffer;
 use types::Eui64;
 use types::Nwk;
+use waiting_table::WaitingEntry;
 ghost use mathlib.Core.Path.{_≡_};
-ghost use Prim.Native.Nat.{min};
+ghost use Prim.Native.Nat.{_<_};
 ghost use Rattle.numbers.specs.Said.{flagNumber, pushed, pushedAll};
 ghost use Rattle.neighbor_table.specs.Entry.{deviceTypeNumber, relationshipNumber};
 ghost use Rattle.neighbor_values.specs.Kinds.{deviceTypeOf, relationshipOf};
+ghost use Rattle.neighbor_values.specs.Reading.{samplesAt, neighborAt, waitingEntryAt};
 ghost use Rattle.neighbor_values.specs.Values.{nameNumbers, samplesNumbers, linkNumbers, routerNumbers, neighborNumbers, childNumbers, statusNumbers, childrenNumbers, eui64sNumbers, nwksNumbers, statusesNumbers};
-
-// The smaller of two counts.
-pub fn at_most(n: usize, most: usize) -> usize
-    ensures { λ r. ⌜ r ≡ min n most ⌝ }
-{
-    if n < most { n } else { most }
-}
 
 // The device type of a number; a number past the last gives the last.
 pub fn device_type(number: u64) -> NwkDeviceType
@@ -35,7 +30,7 @@ pub fn device_type(number: u64) -> NwkDeviceType
         NwkDeviceType::Router,
         NwkDeviceType::EndDevice,
     ];
-    let i = at_most(number as usize, 2);
+    let i = numbers::at_most(number as usize, 2);
     all[i]
 }
 
@@ -55,8 +50,67 @@ pub fn relationship(number: u64) -> Relationship
         Relationship::AddressConflictChild,
         Relationship::BackboneMeshSibling,
     ];
-    let i = at_most(number as usize, 9);
+    let i = numbers::at_most(number as usize, 9);
     all[i]
+}
+
+// The samples that begin at a place.
+pub fn samples_at(args: &[u64], i: usize) -> RingBuffer
+    requires { ⌜ i < 65600 ⌝ }
+    ensures { λ r. ⌜ r ≡ samplesAt (now (args .entry)) i ⌝ }
+{
+    let len = numbers::byte(args, i);
+    let next = numbers::byte(args, i + 1);
+    let first = numbers::byte(args, i + 2);
+    let second = numbers::byte(args, i + 3);
+    let third = numbers::byte(args, i + 4);
+    let values = [first, second, third];
+    RingBuffer { values, len, next }
+}
+
+// The neighbour that begins at a place.
+pub fn neighbor_at(args: &[u64], i: usize) -> NeighborEntry
+    requires { ⌜ i < 65536 ⌝ }
+    ensures { λ r. ⌜ r ≡ neighborAt (now (args .entry)) i ⌝ }
+{
+    NeighborEntry {
+        extended_address: numbers::eui64(args, i),
+        network_address: numbers::nwk(args, i + 1),
+        device_type: device_type(numbers::at(args, i + 2)),
+        rx_on_when_idle: numbers::flag(args, i + 3),
+        end_device_configuration: numbers::short(args, i + 4),
+        timeout_at: numbers::at(args, i + 5),
+        device_timeout: numbers::at(args, i + 6),
+        relationship: relationship(numbers::at(args, i + 7)),
+        transmit_failure: numbers::byte(args, i + 8),
+        lqas: samples_at(args, i + 9),
+        outgoing_cost: numbers::byte(args, i + 14),
+        last_link_status_timestamp: numbers::at(args, i + 15),
+        incoming_beacon_timestamp: numbers::counter(args, i + 16),
+        beacon_transmission_time_offset: numbers::counter(args, i + 17),
+        keepalive_received: numbers::flag(args, i + 18),
+        mac_unicast_bytes_transmitted: numbers::counter(args, i + 19),
+        mac_unicast_bytes_received: numbers::counter(args, i + 20),
+        router_added_timestamp: numbers::at(args, i + 21),
+        router_connectivity: numbers::byte(args, i + 22),
+        router_neighbor_set_diversity: numbers::byte(args, i + 23),
+        router_outbound_activity: numbers::byte(args, i + 24),
+        router_inbound_activity: numbers::byte(args, i + 25),
+        security_timer: numbers::byte(args, i + 26),
+    }
+}
+
+// The waiting entry that begins at a place.
+pub fn waiting_entry_at(args: &[u64], i: usize) -> WaitingEntry
+    requires { ⌜ i < 65536 ⌝ }
+    ensures { λ r. ⌜ r ≡ waitingEntryAt (now (args .entry)) i ⌝ }
+{
+    let network_address = numbers::nwk(args, i);
+    let lqas = samples_at(args, i + 1);
+    WaitingEntry {
+        network_address,
+        lqas,
+    }
 }
 
 // A byte more.
@@ -201,7 +255,7 @@ pub fn push_children(n: Numbers, list: ChildList) -> Numbers
     ensures { λ r. ⌜ r ≡ pushedAll n (childrenNumbers list) ⌝ }
 {
     let count = list.count;
-    let end = at_most(count, 64);
+    let end = numbers::at_most(count, 64);
     let mut m = numbers::push(n, count as u64);
     let mut i: usize = 0;
     while i < end {
@@ -216,7 +270,7 @@ pub fn push_eui64s(n: Numbers, list: Eui64List) -> Numbers
     ensures { λ r. ⌜ r ≡ pushedAll n (eui64sNumbers list) ⌝ }
 {
     let count = list.count;
-    let end = at_most(count, 64);
+    let end = numbers::at_most(count, 64);
     let mut m = numbers::push(n, count as u64);
     let mut i: usize = 0;
     while i < end {
@@ -231,7 +285,7 @@ pub fn push_nwks(n: Numbers, list: NwkList) -> Numbers
     ensures { λ r. ⌜ r ≡ pushedAll n (nwksNumbers list) ⌝ }
 {
     let count = list.count;
-    let end = at_most(count, 64);
+    let end = numbers::at_most(count, 64);
     let mut m = numbers::push(n, count as u64);
     let mut i: usize = 0;
     while i < end {
@@ -246,7 +300,7 @@ pub fn push_statuses(n: Numbers, list: LinkStatusList) -> Numbers
     ensures { λ r. ⌜ r ≡ pushedAll n (statusesNumbers list) ⌝ }
 {
     let count = list.count;
-    let end = at_most(count, 64);
+    let end = numbers::at_most(count, 64);
     let mut m = numbers::push(n, count as u64);
     let mut i: usize = 0;
     while i < end {

@@ -14,6 +14,11 @@ numberAt args i = getD args i 0
 abbrev pub byteAt : List ℕ → ℕ → ℕ
 byteAt args i = numberAt args i % 256
 
+-- a number of 16 bits
+abbrev pub shortAt : List ℕ → ℕ → ℕ
+shortAt args i = numberAt args i % 65536
+
+-- a number of 32 bits
 abbrev pub counterAt : List ℕ → ℕ → ℕ
 counterAt args i = numberAt args i % 4294967296
 

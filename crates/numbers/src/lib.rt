@@ -4,9 +4,9 @@ use types::Nwk;
 use types::Refusal;
 ghost use mathlib.Core.Path.{_≡_};
 ghost use mathlib.Core.List.{[]};
-ghost use Prim.Native.Nat.{_%_};
+ghost use Prim.Native.Nat.{_%_, min};
 ghost use Rattle.numbers.specs.Said.{ok, bad, refusedBy, flagNumber, empty, pushed, pushedAll, spoken};
-ghost use Rattle.numbers.specs.Read.{numberAt, byteAt, counterAt, flagAt, nwkAt, eui64At};
+ghost use Rattle.numbers.specs.Read.{numberAt, byteAt, shortAt, counterAt, flagAt, nwkAt, eui64At};
 
 // Up to 256 numbers; 0 from the count on.
 pub struct Numbers {
@@ -18,6 +18,13 @@ pub struct Numbers {
 pub struct Answer {
     pub kind: u8,
     pub numbers: Numbers,
+}
+
+// The smaller of two counts.
+pub fn at_most(n: usize, most: usize) -> usize
+    ensures { λ r. ⌜ r ≡ min n most ⌝ }
+{
+    if n < most { n } else { most }
 }
 
 // No number.
@@ -118,6 +125,13 @@ pub fn byte(args: &[u64], i: usize) -> u8
     ensures { λ r. ⌜ r ≡ byteAt (now (args .entry)) i ⌝ }
 {
     (at(args, i) % 256) as u8
+}
+
+// The number of 16 bits at a place.
+pub fn short(args: &[u64], i: usize) -> u16
+    ensures { λ r. ⌜ r ≡ shortAt (now (args .entry)) i ⌝ }
+{
+    (at(args, i) % 65536) as u16
 }
 
 // The number of 32 bits at a place.

@@ -20,7 +20,7 @@ fn status_of(number: u64) -> Status
         Status::DiscoveryFailed,
         Status::Inactive,
     ];
-    let i = cells::at_most(number as usize, 3);
+    let i = numbers::at_most(number as usize, 3);
     all[i]
 }
 

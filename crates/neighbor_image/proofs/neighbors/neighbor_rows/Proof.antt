@@ -9,7 +9,7 @@ use Rattle.flat_map.proofs.Shift.{unmapped}
 use Rattle.cells.specs.Listed.{listed}
 use Rattle.cells.proofs.Reading.{read-all, read-next, read-done}
 use Rattle.neighbor_table.specs.declared.NeighborEntry.{NeighborEntry}
-use Rattle.neighbor_image.specs.Neighbors.{neighborAt}
+use Rattle.neighbor_values.specs.Reading.{neighborAt}
 use borrow.Author.Needs.{needs}
 use Rattle.neighbor_image.proofs.neighbors.neighbor_rows.Statement.{statement}
 use Rattle.neighbor_image.proofs.neighbors.neighbor_rows.Tie as tie

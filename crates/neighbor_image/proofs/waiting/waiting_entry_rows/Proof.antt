@@ -9,7 +9,7 @@ use Rattle.flat_map.proofs.Shift.{unmapped}
 use Rattle.cells.specs.Listed.{listed}
 use Rattle.cells.proofs.Reading.{read-all, read-next, read-done}
 use Rattle.waiting_table.specs.declared.WaitingEntry.{WaitingEntry}
-use Rattle.neighbor_image.specs.Neighbors.{waitingEntryAt}
+use Rattle.neighbor_values.specs.Reading.{waitingEntryAt}
 use borrow.Author.Needs.{needs}
 use Rattle.neighbor_image.proofs.waiting.waiting_entry_rows.Statement.{statement}
 use Rattle.neighbor_image.proofs.waiting.waiting_entry_rows.Tie as tie

@@ -1,8 +1,8 @@
 -- Each field is read from its place.
-use Rattle.neighbor_image.specs.Neighbors.{waitingEntryAt}
+use Rattle.neighbor_values.specs.Reading.{waitingEntryAt}
 use borrow.Author.Needs.{needs}
-use Rattle.neighbor_image.proofs.waiting.waiting_entry_at.Statement.{statement}
-use Rattle.neighbor_image.proofs.waiting.waiting_entry_at.Tie as tie
+use Rattle.neighbor_values.proofs.waiting_entry_at.Statement.{statement}
+use Rattle.neighbor_values.proofs.waiting_entry_at.Tie as tie
 
 nwk-requires : tie.Need-nwk-requires
 nwk-requires c κs = search needs

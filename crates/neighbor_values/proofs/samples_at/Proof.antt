@@ -1,8 +1,8 @@
 -- Each byte is read from its place.
-use Rattle.neighbor_image.specs.Neighbors.{samplesAt}
+use Rattle.neighbor_values.specs.Reading.{samplesAt}
 use borrow.Author.Needs.{needs}
-use Rattle.neighbor_image.proofs.neighbors.samples_at.Statement.{statement}
-use Rattle.neighbor_image.proofs.neighbors.samples_at.Tie as tie
+use Rattle.neighbor_values.proofs.samples_at.Statement.{statement}
+use Rattle.neighbor_values.proofs.samples_at.Tie as tie
 
 byte-requires : tie.Need-byte-requires
 byte-requires c κs = search needs

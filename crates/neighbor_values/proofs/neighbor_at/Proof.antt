@@ -1,11 +1,11 @@
 -- Each field is read from its place.
 use mathlib.Core.Path.{ap, _∙_}
 use native.Mathlib.Omega.{arith}
 use Rattle.neighbor_values.specs.Kinds.{deviceTypeOf, relationshipOf}
-use Rattle.neighbor_image.specs.Neighbors.{neighborAt}
+use Rattle.neighbor_values.specs.Reading.{neighborAt}
 use borrow.Author.Needs.{needs}
-use Rattle.neighbor_image.proofs.neighbors.neighbor_at.Statement.{statement}
-use Rattle.neighbor_image.proofs.neighbors.neighbor_at.Tie as tie
+use Rattle.neighbor_values.proofs.neighbor_at.Statement.{statement}
+use Rattle.neighbor_values.proofs.neighbor_at.Tie as tie
 
 eui64-requires : tie.Need-eui64-requires
 eui64-requires c κs = search needs
@@ -31,11 +31,11 @@ add-flag c = omega (arith, c .before .before .before .before .before .pre)
 flag-requires : tie.Need-flag-requires
 flag-requires c κs = search needs
 
-add-short-at : tie.Need-add-short-at
-add-short-at c = omega (arith, c .before .before .before .before .before .before .pre)
+add-short : tie.Need-add-short
+add-short c = omega (arith, c .before .before .before .before .before .before .pre)
 
-short-at-requires : tie.Need-short-at-requires
-short-at-requires c κs = search needs
+short-requires : tie.Need-short-requires
+short-requires c κs = search needs
 
 add-at-2 : tie.Need-add-at-2
 add-at-2 c = omega (arith, c .before .before .before .before .before .before .before .pre)
@@ -150,7 +150,7 @@ byte-requires-7 c κs = search needs
 
 returns : tie.Need-returns
 unfolding neighborAt
-returns c = λ z. record { «extended_address» = c .before .before .before .before .before .before .before .before .before .before .before .before .before .before .before .before .before .before .before .before .before .before .before .before .eui64 .ensures z; «network_address» = c .before .before .before .before .before .before .before .before .before .before .before .before .before .before .before .before .before .before .before .before .before .before .before .nwk .ensures z; «device_type» = (c .before .before .before .before .before .before .before .before .before .before .before .before .before .before .before .before .before .before .before .before .before .device-type .ensures ∙ ap deviceTypeOf (c .before .before .before .before .before .before .before .before .before .before .before .before .before .before .before .before .before .before .before .before .before .before .at .ensures)) z; «rx_on_when_idle» = c .before .before .before .before .before .before .before .before .before .before .before .before .before .before .before .before .before .before .before .before .flag .ensures z; «end_device_configuration» = c .before .before .before .before .before .before .before .before .before .before .before .before .before .before .before .before .before .before .before .short-at .ensures z; «timeout_at» = c .before .before .before .before .before .before .before .before .before .before .before .before .before .before .before .before .before .before .at2 .ensures z; «device_timeout» = c .before .before .before .before .before .before .before .before .before .before .before .before .before .before .before .before .before .at3 .ensures z; relationship = (c .before .before .before .before .before .before .before .before .before .before .before .before .before .before .before .relationship .ensures ∙ ap relationshipOf (c .before .before .before .before .before .before .before .before .before .before .before .before .before .before .before .before .at4 .ensures)) z; «transmit_failure» = c .before .before .before .before .before .before .before .before .before .before .before .before .before .before .byte .ensures z; lqas = c .before .before .before .before .before .before .before .before .before .before .before .before .before .samples-at .ensures z; «outgoing_cost» = c .before .before .before .before .before .before .before .before .before .before .before .before .byte2 .ensures z; «last_link_status_timestamp» = c .before .before .before .before .before .before .before .before .before .before .before .at5 .ensures z; «incoming_beacon_timestamp» = c .before .before .before .before .before .before .before .before .before .before .counter .ensures z; «beacon_transmission_time_offset» = c .before .before .before .before .before .before .before .before .before .counter2 .ensures z; «keepalive_received» = c .before .before .before .before .before .before .before .before .flag2 .ensures z; «mac_unicast_bytes_transmitted» = c .before .before .before .before .before .before .before .counter3 .ensures z; «mac_unicast_bytes_received» = c .before .before .before .before .before .before .counter4 .ensures z; «router_added_timestamp» = c .before .before .before .before .before .at6 .ensures z; «router_connectivity» = c .before .before .before .before .byte3 .ensures z; «router_neighbor_set_diversity» = c .before .before .before .byte4 .ensures z; «router_outbound_activity» = c .before .before .byte5 .ensures z; «router_inbound_activity» = c .before .byte6 .ensures z; «security_timer» = c .byte7 .ensures z }
+returns c = λ z. record { «extended_address» = c .before .before .before .before .before .before .before .before .before .before .before .before .before .before .before .before .before .before .before .before .before .before .before .before .eui64 .ensures z; «network_address» = c .before .before .before .before .before .before .before .before .before .before .before .before .before .before .before .before .before .before .before .before .before .before .before .nwk .ensures z; «device_type» = (c .before .before .before .before .before .before .before .before .before .before .before .before .before .before .before .before .before .before .before .before .before .device-type .ensures ∙ ap deviceTypeOf (c .before .before .before .before .before .before .before .before .before .before .before .before .before .before .before .before .before .before .before .before .before .before .at .ensures)) z; «rx_on_when_idle» = c .before .before .before .before .before .before .before .before .before .before .before .before .before .before .before .before .before .before .before .before .flag .ensures z; «end_device_configuration» = c .before .before .before .before .before .before .before .before .before .before .before .before .before .before .before .before .before .before .before .short .ensures z; «timeout_at» = c .before .before .before .before .before .before .before .before .before .before .before .before .before .before .before .before .before .before .at2 .ensures z; «device_timeout» = c .before .before .before .before .before .before .before .before .before .before .before .before .before .before .before .before .before .at3 .ensures z; relationship = (c .before .before .before .before .before .before .before .before .before .before .before .before .before .before .before .relationship .ensures ∙ ap relationshipOf (c .before .before .before .before .before .before .before .before .before .before .before .before .before .before .before .before .at4 .ensures)) z; «transmit_failure» = c .before .before .before .before .before .before .before .before .before .before .before .before .before .before .byte .ensures z; lqas = c .before .before .before .before .before .before .before .before .before .before .before .before .before .samples-at .ensures z; «outgoing_cost» = c .before .before .before .before .before .before .before .before .before .before .before .before .byte2 .ensures z; «last_link_status_timestamp» = c .before .before .before .before .before .before .before .before .before .before .before .at5 .ensures z; «incoming_beacon_timestamp» = c .before .before .before .before .before .before .before .before .before .before .counter .ensures z; «beacon_transmission_time_offset» = c .before .before .before .before .before .before .before .before .before .counter2 .ensures z; «keepalive_received» = c .before .before .before .before .before .before .before .before .flag2 .ensures z; «mac_unicast_bytes_transmitted» = c .before .before .before .before .before .before .before .counter3 .ensures z; «mac_unicast_bytes_received» = c .before .before .before .before .before .before .counter4 .ensures z; «router_added_timestamp» = c .before .before .before .before .before .at6 .ensures z; «router_connectivity» = c .before .before .before .before .byte3 .ensures z; «router_neighbor_set_diversity» = c .before .before .before .byte4 .ensures z; «router_outbound_activity» = c .before .before .byte5 .ensures z; «router_inbound_activity» = c .before .byte6 .ensures z; «security_timer» = c .byte7 .ensures z }
 
 pub neighbor-at-spec : {M : Type 1} → statement M
 neighbor-at-spec =
@@ -164,8 +164,8 @@ neighbor-at-spec =
     device-type-requires
     add-flag
     flag-requires
-    add-short-at
-    short-at-requires
+    add-short
+    short-requires
     add-at-2
     at-requires-2
     add-at-3
