@@ -11,21 +11,36 @@ imageMark = 2002874992
 abbrev pub imageVersion : ℕ
 imageVersion = 1
 
--- where each table's count stands
+-- where each table's count stands, and where its rows begin, after its keys
 abbrev pub routesPlace : ℕ
 routesPlace = 5
+
+abbrev pub routeRows : ℕ
+routeRows = 70
 
 abbrev pub discoveriesPlace : ℕ
 discoveriesPlace = 710
 
+abbrev pub discoveryRows : ℕ
+discoveryRows = 743
+
 abbrev pub recordsPlace : ℕ
 recordsPlace = 967
+
+abbrev pub recordRows : ℕ
+recordRows = 1032
 
 abbrev pub neighborsPlace : ℕ
 neighborsPlace = 1160
 
+abbrev pub neighborRows : ℕ
+neighborRows = 1225
+
 abbrev pub waitingPlace : ℕ
 waitingPlace = 2953
+
+abbrev pub waitingRows : ℕ
+waitingRows = 3018
 
 -- where the relay store begins, and where the image ends
 abbrev pub storePlace : ℕ

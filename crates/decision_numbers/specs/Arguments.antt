@@ -6,7 +6,7 @@ use mathlib.Core.List.{List, [], _∷_}
 use lib.ListN.{getD}
 use Rattle.types.specs.declared.Nwk.{Nwk}
 use Rattle.numbers.specs.Read.{numberAt, byteAt, flagAt, nwkAt}
-use Rattle.header_numbers.specs.Reading.{relaysAt}
+use Rattle.route_args.specs.Read.{relaysAt}
 use Rattle.next_hop.specs.declared.HostRoute.the-variants.{NextHop, SourceRoute}
 use Rattle.next_hop.specs.declared.RouteDirective.the-variants.{StackDecides, Hint, Force}
 use Rattle.next_hop.specs.declared.SendKind.{SendKind}

@@ -51,7 +51,7 @@ pub fn mode(args: &[u64], i: usize) -> SendMode
     ensures { λ r. ⌜ r ≡ modeAt (now (args .entry)) i ⌝ }
 {
     let kind = kind(numbers::at(args, i), numbers::nwk(args, i + 1));
-    let relays = header_numbers::relays(args, i + 1);
+    let relays = route_args::relays(args, i + 1);
     SendMode { kind, relays }
 }
 

@@ -1,4 +1,4 @@
--- A network header and a list of relays read from numbers, from a place on.
+-- A network header read from numbers, from a place on.
 -- HEADER: FTYPE VERSION DISCOVER MCAST SECURITY SRCROUTE DESTIEEE SRCIEEE ENDDEV RESERVED DEST SOURCE RADIUS SEQ, two extended addresses and
 -- the multicast control that may be given, and a source route that may be given: its index and its relays.
 -- Assumes nothing.
@@ -6,12 +6,9 @@ use Prim.Native.Nat.{ℕ, _+_, min}
 use mathlib.Core.Bool.{cond}
 use mathlib.Core.List.{List, [], _∷_}
 use lib.ListN.{getD}
-use Rattle.types.specs.declared.Nwk.{Nwk}
-use Rattle.standard.specs.declared.RelayList.{RelayList}
-use Rattle.flat_map.specs.Rows.{pad}
 use Rattle.numbers.specs.Read.{numberAt, byteAt, flagAt, nwkAt, eui64At}
-use Rattle.neighbor_queries.specs.Lists.{noAddress}
-use Rattle.child_arguments.specs.Arguments.{past, upTo}
+use Rattle.child_arguments.specs.Arguments.{past}
+use Rattle.route_args.specs.Read.{relaysAt}
 use Rattle.frame.specs.declared.NwkFrameType.{NwkFrameType}
 use Rattle.frame.specs.declared.NwkFrameType.the-variants.{Data, Command, Interpan}
 use Rattle.frame.specs.declared.NwkRouteDiscovery.{NwkRouteDiscovery}
@@ -50,16 +47,6 @@ optionalEui64At args i = cond (flagAt args i) (names.Present (eui64At args (i + 
 
 abbrev pub optionalByteAt : List ℕ → ℕ → OptionalByte
 optionalByteAt args i = cond (flagAt args i) (bytes.Present (byteAt args (i + 1))) bytes.Absent
-
--- the relays after a count; a count past the list's 32 places is kept, for the call to refuse
-abbrev pub relayAt : List ℕ → ℕ → ℕ → Nwk
-relayAt args i k = nwkAt args (i + 1 + k)
-
-abbrev pub relaysTo : List ℕ → ℕ → ℕ → RelayList
-relaysTo args i n = record { count = numberAt args i; addresses = pad 32 noAddress (upTo (relayAt args i) n) }
-
-unfoldable pub relaysAt : List ℕ → ℕ → RelayList
-relaysAt args i = relaysTo args i (min (numberAt args i) 32)
 
 -- a source route after the number that says whether there is one; where there is none, nothing stands there
 abbrev pub routeAt : List ℕ → ℕ → NwkSourceRoute

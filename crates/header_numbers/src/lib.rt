@@ -7,14 +7,11 @@ use frame::NwkSourceRoute;
 use frame::OptionalByte;
 use frame::OptionalEui64;
 use numbers::Numbers;
-use standard::RelayList;
-use types::Nwk;
 ghost use mathlib.Core.Path.{_≡_};
 ghost use Prim.Native.Nat.{_<_};
 ghost use Rattle.numbers.specs.Said.{flagNumber, pushed, pushedAll};
 ghost use Rattle.frame.specs.Numbers.{frameTypeNumber, discoveryNumber, nameNumbers, byteNumbers, controlNumbers, routeNumbers, headerNumbers};
-ghost use Rattle.header_numbers.specs.Reading.{frameTypeOf, discoveryOf, controlAt, optionalEui64At, optionalByteAt, relaysAt, routeAt, headerAt};
-ghost use Rattle.header_numbers.specs.Relays.{relaysNumbers};
+ghost use Rattle.header_numbers.specs.Reading.{frameTypeOf, discoveryOf, controlAt, optionalEui64At, optionalByteAt, routeAt, headerAt};
 
 // The frame type of a number.
 fn frame_type(number: u64) -> NwkFrameType
@@ -95,33 +92,12 @@ fn optional_byte(args: &[u64], i: usize) -> OptionalByte
     }
 }
 
-// A list of relays, its count first.
-pub fn relays(args: &[u64], i: usize) -> RelayList
-    requires { ⌜ i < 256 ⌝ }
-    ensures { λ r. ⌜ r ≡ relaysAt (now (args .entry)) i ⌝ }
-{
-    let count = numbers::at(args, i) as usize;
-    let end = numbers::at_most(count, 32);
-    let blank = Nwk(0);
-    let mut list = RelayList {
-        count,
-        addresses: [blank; 32],
-    };
-    let mut k: usize = 0;
-    while k < end {
-        let relay = numbers::nwk(args, i + 1 + k);
-        list.addresses[k] = relay;
-        k += 1;
-    }
-    list
-}
-
 fn route(args: &[u64], i: usize) -> NwkSourceRoute
     requires { ⌜ i < 200 ⌝ }
     ensures { λ r. ⌜ r ≡ routeAt (now (args .entry)) i ⌝ }
 {
     let relay_index = numbers::byte(args, i + 1);
-    let relays = relays(args, i + 2);
+    let relays = route_args::relays(args, i + 2);
     NwkSourceRoute {
         relay_index,
         relays,
@@ -221,22 +197,6 @@ fn push_optional_byte(n: Numbers, byte: OptionalByte) -> Numbers
     }
 }
 
-// A list of relays, its count first.
-fn push_relays(n: Numbers, list: RelayList) -> Numbers
-    ensures { λ r. ⌜ r ≡ pushedAll n (relaysNumbers list) ⌝ }
-{
-    let count = list.count;
-    let end = numbers::at_most(count, 32);
-    let mut m = numbers::push(n, count as u64);
-    let mut i: usize = 0;
-    while i < end {
-        let nwk = list.addresses[i];
-        m = neighbor_values::push_nwk(m, nwk);
-        i += 1;
-    }
-    m
-}
-
 fn push_route(n: Numbers, has: bool, route: NwkSourceRoute) -> Numbers
     ensures { λ r. ⌜ r ≡ pushedAll n (routeNumbers has route) ⌝ }
 {
@@ -244,7 +204,7 @@ fn push_route(n: Numbers, has: bool, route: NwkSourceRoute) -> Numbers
     if has {
         let m = numbers::push(n, 1);
         let k = neighbor_values::push_byte(m, route.relay_index);
-        push_relays(k, relays)
+        route_answers::push_relays(k, relays)
     } else {
         numbers::push(n, 0)
     }

@@ -7,7 +7,7 @@ use mathlib.Core.List.{List, [], _∷_}
 use lib.Dec.{eqb, leb}
 use lib.ListN.{length, take, drop, getD}
 use Rattle.numbers.specs.Read.{numberAt}
-use Rattle.cells.specs.Layout.{imageMark, imageVersion, imageLength}
+use Rattle.cells.specs.Layout.{imageMark, imageVersion, routesPlace, routeRows, discoveriesPlace, discoveryRows, recordsPlace, recordRows, neighborsPlace, neighborRows, waitingPlace, waitingRows, storePlace, imageLength}
 
 -- the numbers from place a up to place e
 abbrev pub part : ℕ → ℕ → List ℕ → List ℕ
@@ -48,16 +48,16 @@ storeLimits = 65535 ∷ []
 
 -- the rows of the three routing tables
 unfoldable pub routingFits : List ℕ → Bool
-routingFits xs = within routeLimits 0 (part 70 710 xs) && (within discoveryLimits 0 (part 743 967 xs) && within recordLimits 0 (part 1032 1160 xs))
+routingFits xs = within routeLimits 0 (part routeRows discoveriesPlace xs) && (within discoveryLimits 0 (part discoveryRows recordsPlace xs) && within recordLimits 0 (part recordRows neighborsPlace xs))
 
 -- the rows of the neighbours and of the waiting samples
 unfoldable pub neighborsFit : List ℕ → Bool
-neighborsFit xs = within neighborLimits 0 (part 1225 2953 xs) && within waitingLimits 0 (part 3018 3402 xs)
+neighborsFit xs = within neighborLimits 0 (part neighborRows waitingPlace xs) && within waitingLimits 0 (part waitingRows storePlace xs)
 
 -- the mark, the version and the counters
 unfoldable pub headFits : List ℕ → Bool
-headFits xs = eqb (numberAt xs 0) imageMark && (eqb (numberAt xs 1) imageVersion && within counterLimits 0 (part 2 5 xs))
+headFits xs = eqb (numberAt xs 0) imageMark && (eqb (numberAt xs 1) imageVersion && within counterLimits 0 (part 2 routesPlace xs))
 
 -- a good image
 unfoldable pub goodImage : List ℕ → Bool
-goodImage xs = eqb (length xs) imageLength && (headFits xs && (routingFits xs && (neighborsFit xs && within storeLimits 0 (part 3402 5450 xs))))
+goodImage xs = eqb (length xs) imageLength && (headFits xs && (routingFits xs && (neighborsFit xs && within storeLimits 0 (part storePlace imageLength xs))))

@@ -3,7 +3,7 @@
 use Prim.Native.Nat.{ℕ, _+_, _%_}
 use mathlib.Core.List.{List, [], _∷_, _++_}
 use Rattle.numbers.specs.Read.{numberAt, byteAt}
-use Rattle.cells.specs.Layout.{imageMark, imageVersion}
+use Rattle.cells.specs.Layout.{imageMark, imageVersion, storePlace}
 use Rattle.cells.specs.Listed.{listed}
 use Rattle.route_image.specs.Routes.{routesAt, discoveriesAt, recordsAt, routesNumbers, discoveriesNumbers, recordsNumbers}
 use Rattle.neighbor_image.specs.Neighbors.{neighborsAt, waitingAt, waitingTableNumbers}
@@ -31,7 +31,7 @@ worldIn xs = record { routing = routingIn xs; neighbors = neighborsIn xs }
 
 -- the relay store's 2,048 addresses
 unfoldable pub storeIn : List ℕ → List ℕ
-storeIn xs = listed (λ i. numberAt xs (3402 + i) % 65536) 0 2048
+storeIn xs = listed (λ i. numberAt xs (storePlace + i) % 65536) 0 2048
 
 -- the mark, the version, the counters and the request id
 abbrev pub headNumbers : Routing → List ℕ

@@ -2,6 +2,7 @@
 ghost use mathlib.Core.Path.{_≡_};
 ghost use Prim.Native.Nat.{_<_};
 ghost use lib.ListN.{length};
+ghost use Rattle.cells.specs.Layout.{imageLength};
 ghost use Rattle.image.specs.Good.{within, headFits, routingFits, neighborsFit, goodImage};
 
 // What stands first in every image, and the version of the layout.
@@ -68,7 +69,7 @@ fn fits(rows: &[u64], limits: &[u64]) -> bool
 
 // The mark, the version and the counters.
 fn head_fits(image: &[u64]) -> bool
-    requires { ⌜ length (now image) ≡ 5450 ⌝ }
+    requires { ⌜ length (now image) ≡ imageLength ⌝ }
     ensures { λ r. ⌜ r ≡ headFits (now (image .entry)) ⌝ }
 {
     let mark = numbers::at(image, 0);
@@ -79,7 +80,7 @@ fn head_fits(image: &[u64]) -> bool
 
 // The rows of the three routing tables.
 fn routing_fits(image: &[u64]) -> bool
-    requires { ⌜ length (now image) ≡ 5450 ⌝ }
+    requires { ⌜ length (now image) ≡ imageLength ⌝ }
     ensures { λ r. ⌜ r ≡ routingFits (now (image .entry)) ⌝ }
 {
     let routes = fits(&image[70..710], &ROUTE);
@@ -90,7 +91,7 @@ fn routing_fits(image: &[u64]) -> bool
 
 // The rows of the neighbours and of the waiting samples.
 fn neighbors_fit(image: &[u64]) -> bool
-    requires { ⌜ length (now image) ≡ 5450 ⌝ }
+    requires { ⌜ length (now image) ≡ imageLength ⌝ }
     ensures { λ r. ⌜ r ≡ neighborsFit (now (image .entry)) ⌝ }
 {
     let neighbors = fits(&image[1225..2953], &NEIGHBOR);

@@ -7,6 +7,7 @@ use routing::Routing;
 use world::World;
 ghost use mathlib.Core.Path.{_≡_};
 ghost use lib.Seq.{sets};
+ghost use Rattle.cells.specs.Layout.{neighborsPlace};
 ghost use Rattle.image.specs.Good.{goodImage};
 ghost use Rattle.image.specs.Image.{routingIn, neighborsIn, worldIn, routingNumbers, neighborsNumbers, worldNumbers};
 
@@ -81,7 +82,7 @@ fn write_routing(image: &mut [u64], routing: Routing)
 
 // The neighbours put into an image.
 fn write_neighbors(image: &mut [u64], neighbors: Neighbors)
-    ensures { λ _. ⌜ now (image .exit) ≡ sets (now (image .entry)) 1160 (neighborsNumbers neighbors) ⌝ }
+    ensures { λ _. ⌜ now (image .exit) ≡ sets (now (image .entry)) neighborsPlace (neighborsNumbers neighbors) ⌝ }
 {
     let table = neighbors.table;
     let pending = neighbors.pending_lqas;

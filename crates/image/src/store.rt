@@ -1,6 +1,7 @@
 // The relay store's part of an image.
 ghost use mathlib.Core.Path.{_≡_};
 ghost use lib.Seq.{sets};
+ghost use Rattle.cells.specs.Layout.{storePlace};
 ghost use Rattle.image.specs.Image.{storeIn};
 
 // A whole relay store: 64 rows of 32 addresses.
@@ -21,7 +22,7 @@ pub fn read_store(image: &[u64]) -> Store
 
 // A relay store put into an image; what would stand past the image's end is left out.
 pub fn write_store(store: &[u16], image: &mut [u64])
-    ensures { λ _. ⌜ now (image .exit) ≡ sets (now (image .entry)) 3402 (now (store .entry)) ⌝ }
+    ensures { λ _. ⌜ now (image .exit) ≡ sets (now (image .entry)) storePlace (now (store .entry)) ⌝ }
 {
     let mut at: usize = 3402;
     let mut i: usize = 0;

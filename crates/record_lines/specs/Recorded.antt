@@ -3,7 +3,7 @@
 use Prim.Native.Nat.{ℕ}
 use mathlib.Core.List.{List}
 use Rattle.numbers.specs.Read.{byteAt, nwkAt, numberAt}
-use Rattle.route_args.specs.Read.{relaysRead}
+use Rattle.route_args.specs.Read.{relaysAt}
 use Rattle.routing.specs.declared.RecordOutcome.{RecordOutcome}
 use Rattle.routing.specs.declared.RouteToOutcome.{RouteToOutcome}
 use Rattle.routing.specs.declared.RecordAtOutcome.{RecordAtOutcome}
@@ -25,10 +25,10 @@ recordAtReply w o = asked w (recordAtSaid (o .answer) (o .relays))
 
 -- A route record of a source, and the store after it.
 unfoldable pub storeRouteRecordCall : World → List ℕ → List ℕ → Reply
-storeRouteRecordCall w args store = recordReply w (storeRouteRecord (w .routing) (nwkAt args 0) (relaysRead args) store)
+storeRouteRecordCall w args store = recordReply w (storeRouteRecord (w .routing) (nwkAt args 0) (relaysAt args 1) store)
 
 unfoldable pub storeRouteRecordStore : World → List ℕ → List ℕ → List ℕ
-storeRouteRecordStore w args store = storeAfterRecord (w .routing) (nwkAt args 0) (relaysRead args) store
+storeRouteRecordStore w args store = storeAfterRecord (w .routing) (nwkAt args 0) (relaysAt args 1) store
 
 -- The record of a destination is removed, and the store after it.
 unfoldable pub removeRouteRecordCall : World → List ℕ → List ℕ → Reply

@@ -22,7 +22,7 @@ pub fn store_route_record(world: World, args: &[u64], store: &mut [u16]) -> Repl
 {
     let routing = world.routing;
     let source = numbers::nwk(args, 0);
-    let l = route_args::relays(args);
+    let l = route_args::relays(args, 1);
     let o = routing.store_route_record(store, source, l);
     record_reply(world, o)
 }

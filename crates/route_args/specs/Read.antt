@@ -1,6 +1,6 @@
 -- Arguments of routing calls by their numbers: the inverse of what answers say.
 -- Assumes nothing.
-use Prim.Native.Nat.{ℕ, _%_}
+use Prim.Native.Nat.{ℕ, _+_, _%_}
 use mathlib.Core.Bool.{cond}
 use mathlib.Core.List.{List, map}
 use lib.Dec.{eqb}
@@ -29,31 +29,33 @@ statusOf n = cond (eqb n 0) Active (cond (eqb n 1) DiscoveryUnderway (cond (eqb 
 abbrev pub cutNwk : ℕ → Nwk
 cutNwk n = nwk (n % 65536)
 
--- the relays from place 2 on, as many as place 1 says; a count past the list's 32 places is kept, for the call to refuse
-unfoldable pub relaysRead : List ℕ → RelayList
-relaysRead args = record { count = numberAt args 1; addresses = pad 32 (nwk 0) (map cutNwk (take (numberAt args 1) (drop 2 args))) }
+-- the relays after a count at place b; a count past the list's 32 places is kept, for the call to refuse
+unfoldable pub relaysAt : List ℕ → ℕ → RelayList
+relaysAt xs b = record { count = numberAt xs b; addresses = pad 32 (nwk 0) (map cutNwk (take (numberAt xs b) (drop (b + 1) xs))) }
 
-unfoldable pub routeRead : List ℕ → RouteEntry
-routeRead args = record {
-  destination = nwkAt args 0;
-  status = statusOf (numberAt args 1);
-  «no_route_cache» = flagAt args 2;
-  «many_to_one» = flagAt args 3;
-  «route_record_required» = flagAt args 4;
-  expired = flagAt args 5;
-  «next_hop_address» = nwkAt args 6;
-  «path_cost» = byteAt args 7;
-  «total_usage_count» = counterAt args 8;
-  «recent_activity» = byteAt args 9;
+-- a route, from place b on
+unfoldable pub routeAt : List ℕ → ℕ → RouteEntry
+routeAt xs b = record {
+  destination = nwkAt xs b;
+  status = statusOf (numberAt xs (b + 1));
+  «no_route_cache» = flagAt xs (b + 2);
+  «many_to_one» = flagAt xs (b + 3);
+  «route_record_required» = flagAt xs (b + 4);
+  expired = flagAt xs (b + 5);
+  «next_hop_address» = nwkAt xs (b + 6);
+  «path_cost» = byteAt xs (b + 7);
+  «total_usage_count» = counterAt xs (b + 8);
+  «recent_activity» = byteAt xs (b + 9);
 }
 
-unfoldable pub discoveryRead : List ℕ → DiscoveryEntry
-discoveryRead args = record {
-  «route_request_id» = byteAt args 1;
-  «source_address» = nwkAt args 0;
-  «sender_address» = nwkAt args 2;
-  «forward_cost» = byteAt args 3;
-  «residual_cost» = byteAt args 4;
-  «expiration_time» = numberAt args 5;
-  «destination_address» = nwkAt args 6;
+-- a discovery, from place b on
+unfoldable pub discoveryAt : List ℕ → ℕ → DiscoveryEntry
+discoveryAt xs b = record {
+  «route_request_id» = byteAt xs (b + 1);
+  «source_address» = nwkAt xs b;
+  «sender_address» = nwkAt xs (b + 2);
+  «forward_cost» = byteAt xs (b + 3);
+  «residual_cost» = byteAt xs (b + 4);
+  «expiration_time» = numberAt xs (b + 5);
+  «destination_address» = nwkAt xs (b + 6);
 }

@@ -1,28 +1,22 @@
 -- Rows and tables that were written are read back, wherever they stand, if each number fits its field.
 -- Field by field: what stands at a place is the row's number, and a number that fits is not cut.
 -- Assumes nothing.
-use Prim.Native.Nat.{ℕ, _<_}
+use Prim.Native.Nat.{ℕ, _+_, _<_}
 use mathlib.Core.List.{List, _++_, flatMap}
 use mathlib.Core.Path.{_≡_, refl, ap, _∙_}
 use lib.ListN.{length, drop}
-use Rattle.standard.specs.declared.Status.{Status}
-use Rattle.standard.specs.declared.Status.the-variants.{Active, DiscoveryUnderway, DiscoveryFailed, Inactive}
 use Rattle.standard.specs.declared.RouteEntry.{RouteEntry}
 use Rattle.standard.specs.declared.DiscoveryEntry.{DiscoveryEntry}
 use Rattle.standard.specs.declared.RecordEntry.{RecordEntry}
-use Rattle.standard.specs.Numbers.{statusNumber}
 use Rattle.route_answers.specs.Values.{routeNumbers, discoveryNumbers}
 use Rattle.route_table.specs.declared.RouteTable.{RouteTable}
 use Rattle.discovery_table.specs.declared.DiscoveryTable.{DiscoveryTable}
 use Rattle.record_table.specs.declared.RecordTable.{RecordTable}
+use Rattle.cells.specs.Layout.{routesPlace, routeRows, discoveriesPlace, discoveryRows, recordsPlace, recordRows}
 use Rattle.cells.proofs.Back.{Each, there, first-there, cut-back, flag-back, keys-back, rows-back, keys-part, rows-part}
-use Rattle.route_image.specs.Routes.{statusOf, routeAt, discoveryAt, recordAt, recordNumbers, routesAt, discoveriesAt, recordsAt, routesNumbers, discoveriesNumbers, recordsNumbers}
-
-status-back : (s : Status) → statusOf (statusNumber s) ≡ s
-status-back Active = refl
-status-back DiscoveryUnderway = refl
-status-back DiscoveryFailed = refl
-status-back Inactive = refl
+use Rattle.route_args.specs.Read.{statusOf, routeAt, discoveryAt}
+use Rattle.route_args.proofs.Back.{status-back}
+use Rattle.route_image.specs.Routes.{recordAt, recordNumbers, routesAt, discoveriesAt, recordsAt, routesNumbers, discoveriesNumbers, recordsNumbers}
 
 -- a route whose numbers fit
 pub record RouteFits (e : RouteEntry) : Type 0 where
@@ -81,34 +75,34 @@ record-back e xs rest b h f = λ z. record {
 }
 
 -- a whole table
-pub routes-back : (t : RouteTable) (xs rest : List ℕ) → drop 5 xs ≡ routesNumbers t ++ rest → length (t .keys) ≡ 64 → length (t .entries) ≡ 64 → Each RouteFits (t .entries) → routesAt xs ≡ t
+pub routes-back : (t : RouteTable) (xs rest : List ℕ) → drop routesPlace xs ≡ routesNumbers t ++ rest → length (t .keys) ≡ 64 → length (t .entries) ≡ 64 → Each RouteFits (t .entries) → routesAt xs ≡ t
 unfolding routesAt routesNumbers
 routes-back t xs rest h k l a =
     let rows = flatMap routeNumbers (t .entries) in
     λ z. record {
-      keys = keys-back (t .keys) xs (rows ++ rest) 6 64 (keys-part (t .count) (t .keys) rows xs rest 5 h) k z;
-      entries = rows-back routeNumbers 10 routeAt RouteFits (λ e. refl) route-back (t .entries) xs rest 70 64 (rows-part (t .count) (t .keys) rows xs rest 5 h 64 k) l a z;
-      count = first-there xs (routesNumbers t ++ rest) 5 h z;
+      keys = keys-back (t .keys) xs (rows ++ rest) (routesPlace + 1) 64 (keys-part (t .count) (t .keys) rows xs rest routesPlace h) k z;
+      entries = rows-back routeNumbers 10 routeAt RouteFits (λ e. refl) route-back (t .entries) xs rest routeRows 64 (rows-part (t .count) (t .keys) rows xs rest routesPlace h 64 k) l a z;
+      count = first-there xs (routesNumbers t ++ rest) routesPlace h z;
     }
 
 -- a whole table
-pub discoveries-back : (t : DiscoveryTable) (xs rest : List ℕ) → drop 710 xs ≡ discoveriesNumbers t ++ rest → length (t .keys) ≡ 32 → length (t .entries) ≡ 32 → Each DiscoveryFits (t .entries) → discoveriesAt xs ≡ t
+pub discoveries-back : (t : DiscoveryTable) (xs rest : List ℕ) → drop discoveriesPlace xs ≡ discoveriesNumbers t ++ rest → length (t .keys) ≡ 32 → length (t .entries) ≡ 32 → Each DiscoveryFits (t .entries) → discoveriesAt xs ≡ t
 unfolding discoveriesAt discoveriesNumbers
 discoveries-back t xs rest h k l a =
     let rows = flatMap discoveryNumbers (t .entries) in
     λ z. record {
-      keys = keys-back (t .keys) xs (rows ++ rest) 711 32 (keys-part (t .count) (t .keys) rows xs rest 710 h) k z;
-      entries = rows-back discoveryNumbers 7 discoveryAt DiscoveryFits (λ e. refl) discovery-back (t .entries) xs rest 743 32 (rows-part (t .count) (t .keys) rows xs rest 710 h 32 k) l a z;
-      count = first-there xs (discoveriesNumbers t ++ rest) 710 h z;
+      keys = keys-back (t .keys) xs (rows ++ rest) (discoveriesPlace + 1) 32 (keys-part (t .count) (t .keys) rows xs rest discoveriesPlace h) k z;
+      entries = rows-back discoveryNumbers 7 discoveryAt DiscoveryFits (λ e. refl) discovery-back (t .entries) xs rest discoveryRows 32 (rows-part (t .count) (t .keys) rows xs rest discoveriesPlace h 32 k) l a z;
+      count = first-there xs (discoveriesNumbers t ++ rest) discoveriesPlace h z;
     }
 
 -- a whole table
-pub records-back : (t : RecordTable) (xs rest : List ℕ) → drop 967 xs ≡ recordsNumbers t ++ rest → length (t .keys) ≡ 64 → length (t .entries) ≡ 64 → Each RecordFits (t .entries) → recordsAt xs ≡ t
+pub records-back : (t : RecordTable) (xs rest : List ℕ) → drop recordsPlace xs ≡ recordsNumbers t ++ rest → length (t .keys) ≡ 64 → length (t .entries) ≡ 64 → Each RecordFits (t .entries) → recordsAt xs ≡ t
 unfolding recordsAt recordsNumbers
 records-back t xs rest h k l a =
     let rows = flatMap recordNumbers (t .entries) in
     λ z. record {
-      keys = keys-back (t .keys) xs (rows ++ rest) 968 64 (keys-part (t .count) (t .keys) rows xs rest 967 h) k z;
-      entries = rows-back recordNumbers 2 recordAt RecordFits (λ e. refl) record-back (t .entries) xs rest 1032 64 (rows-part (t .count) (t .keys) rows xs rest 967 h 64 k) l a z;
-      count = first-there xs (recordsNumbers t ++ rest) 967 h z;
+      keys = keys-back (t .keys) xs (rows ++ rest) (recordsPlace + 1) 64 (keys-part (t .count) (t .keys) rows xs rest recordsPlace h) k z;
+      entries = rows-back recordNumbers 2 recordAt RecordFits (λ e. refl) record-back (t .entries) xs rest recordRows 64 (rows-part (t .count) (t .keys) rows xs rest recordsPlace h 64 k) l a z;
+      count = first-there xs (recordsNumbers t ++ rest) recordsPlace h z;
     }

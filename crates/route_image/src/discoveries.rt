@@ -1,36 +1,15 @@
-// The discoveries of an image: a row read and written, and the whole table each way.
+// The discoveries of an image: a row written, and the whole table each way.
 use discovery_table::DiscoveryTable;
 use standard::DiscoveryEntry;
 ghost use mathlib.Core.Path.{_≡_};
 ghost use mathlib.Core.List.{flatMap};
-ghost use Prim.Native.Nat.{_<_, _+_, _*_};
+ghost use Prim.Native.Nat.{_+_, _*_};
 ghost use lib.Seq.{sets};
+ghost use Rattle.cells.specs.Layout.{discoveriesPlace, discoveryRows};
 ghost use Rattle.cells.specs.Listed.{listed};
+ghost use Rattle.route_args.specs.Read.{discoveryAt};
 ghost use Rattle.route_answers.specs.Values.{discoveryNumbers};
-ghost use Rattle.route_image.specs.Routes.{discoveryAt, discoveriesAt, discoveriesNumbers};
-
-// The row that begins at a place.
-fn discovery_at(image: &[u64], base: usize) -> DiscoveryEntry
-    requires { ⌜ base < 65536 ⌝ }
-    ensures { λ r. ⌜ r ≡ discoveryAt (now (image .entry)) base ⌝ }
-{
-    let source_address = numbers::nwk(image, base);
-    let route_request_id = numbers::byte(image, base + 1);
-    let sender_address = numbers::nwk(image, base + 2);
-    let forward_cost = numbers::byte(image, base + 3);
-    let residual_cost = numbers::byte(image, base + 4);
-    let expiration_time = numbers::at(image, base + 5);
-    let destination_address = numbers::nwk(image, base + 6);
-    DiscoveryEntry {
-        route_request_id,
-        source_address,
-        sender_address,
-        forward_cost,
-        residual_cost,
-        expiration_time,
-        destination_address,
-    }
-}
+ghost use Rattle.route_image.specs.Routes.{discoveriesAt, discoveriesNumbers};
 
 // A row put from a place on.
 fn write_discovery(image: &mut [u64], base: usize, e: DiscoveryEntry)
@@ -50,12 +29,12 @@ fn write_discovery(image: &mut [u64], base: usize, e: DiscoveryEntry)
 
 // The table with every row read from the image.
 fn discovery_rows(image: &[u64], table: DiscoveryTable) -> DiscoveryTable
-    ensures { λ r. ⌜ r ≡ record { keys = table .keys; entries = listed (λ i. discoveryAt (now (image .entry)) (743 + i * 7)) 0 32; count = table .count } ⌝ }
+    ensures { λ r. ⌜ r ≡ record { keys = table .keys; entries = listed (λ i. discoveryAt (now (image .entry)) (discoveryRows + i * 7)) 0 32; count = table .count } ⌝ }
 {
     let mut t = table;
     let mut i: usize = 0;
     while i < 32 {
-        let e = discovery_at(image, 743 + i * 7);
+        let e = route_args::discovery(image, 743 + i * 7);
         t.entries[i] = e;
         i += 1;
     }
@@ -64,7 +43,7 @@ fn discovery_rows(image: &[u64], table: DiscoveryTable) -> DiscoveryTable
 
 // Every row of a table put in turn.
 fn write_discovery_rows(image: &mut [u64], t: DiscoveryTable)
-    ensures { λ _. ⌜ now (image .exit) ≡ sets (now (image .entry)) 743 (flatMap discoveryNumbers (t .entries)) ⌝ }
+    ensures { λ _. ⌜ now (image .exit) ≡ sets (now (image .entry)) discoveryRows (flatMap discoveryNumbers (t .entries)) ⌝ }
 {
     let mut i: usize = 0;
     while i < 32 {
@@ -87,7 +66,7 @@ pub fn read_discoveries(image: &[u64]) -> DiscoveryTable
 
 // A table written to an image.
 pub fn write_discoveries(image: &mut [u64], t: DiscoveryTable)
-    ensures { λ _. ⌜ now (image .exit) ≡ sets (now (image .entry)) 710 (discoveriesNumbers t) ⌝ }
+    ensures { λ _. ⌜ now (image .exit) ≡ sets (now (image .entry)) discoveriesPlace (discoveriesNumbers t) ⌝ }
 {
     let count = t.count;
     let head = [count as u64];

@@ -27,7 +27,7 @@ use Rattle.relay_store.specs.Store.{agrees, onRows, rowPut, rowOf, relaysOf}
 use Rattle.routing.specs.declared.Routing.{Routing}
 use Rattle.routing.specs.Routes.{withRoutes}
 use Rattle.routing.specs.Records.{withRecords}
-use Rattle.route_args.specs.Read.{relaysRead, routeRead, discoveryRead}
+use Rattle.route_args.specs.Read.{relaysAt, routeAt, discoveryAt}
 use Rattle.route_loads.specs.declared.RouteLoad.{RouteLoad}
 
 -- done; no call; a list past its capacity
@@ -72,7 +72,7 @@ routePut e s =
     (unloaded s)
 
 unfoldable pub putRoute : Routing → List ℕ → RouteLoad
-putRoute s args = routePut (routeRead args) s
+putRoute s args = routePut (routeAt args 0) s
 
 -- a discovery under its key, over the one that is there or in a free place
 unfoldable pub discoveryPut : DiscoveryEntry → Routing → RouteLoad
@@ -84,7 +84,7 @@ discoveryPut e s =
     (unloaded s)
 
 unfoldable pub putDiscovery : Routing → List ℕ → RouteLoad
-putDiscovery s args = discoveryPut (discoveryRead args) s
+putDiscovery s args = discoveryPut (discoveryAt args 0) s
 
 -- a record's entry put under its destination, and its row at the same place of the store
 abbrev pub recordTablePut : Nwk → RelayList → RecordTable → RecordTable
@@ -112,10 +112,10 @@ recordPutStore destination l s store =
     store
 
 unfoldable pub putRecord : Routing → List ℕ → List ℕ → RouteLoad
-putRecord s args store = cond (ltb 32 (relaysRead args .count)) (listTooLong s) (recordPut (nwkAt args 0) (relaysRead args) s store)
+putRecord s args store = cond (ltb 32 (relaysAt args 1 .count)) (listTooLong s) (recordPut (nwkAt args 0) (relaysAt args 1) s store)
 
 unfoldable pub putRecordStore : Routing → List ℕ → List ℕ → List ℕ
-putRecordStore s args store = cond (ltb 32 (relaysRead args .count)) store (recordPutStore (nwkAt args 0) (relaysRead args) s store)
+putRecordStore s args store = cond (ltb 32 (relaysAt args 1 .count)) store (recordPutStore (nwkAt args 0) (relaysAt args 1) s store)
 
 -- damage: a table's count, and the key at a place within the table
 unfoldable pub setRouteCount : Routing → List ℕ → RouteLoad

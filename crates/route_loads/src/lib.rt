@@ -112,7 +112,7 @@ fn load_route(s: Routing, e: RouteEntry) -> RouteLoad
 pub fn put_route(s: Routing, args: &[u64]) -> RouteLoad
     ensures { λ r. ⌜ r ≡ putRoute s (now (args .entry)) ⌝ }
 {
-    let e = route_args::route(args);
+    let e = route_args::route(args, 0);
     load_route(s, e)
 }
 
@@ -137,7 +137,7 @@ fn load_discovery(s: Routing, e: DiscoveryEntry) -> RouteLoad
 pub fn put_discovery(s: Routing, args: &[u64]) -> RouteLoad
     ensures { λ r. ⌜ r ≡ putDiscovery s (now (args .entry)) ⌝ }
 {
-    let e = route_args::discovery(args);
+    let e = route_args::discovery(args, 0);
     load_discovery(s, e)
 }
 
@@ -185,7 +185,7 @@ pub fn put_record(s: Routing, args: &[u64], store: &mut [u16]) -> RouteLoad
     ensures { λ _. ⌜ now (store .exit) ≡ putRecordStore s (now (args .entry)) (now (store .entry)) ⌝ }
 {
     let destination = numbers::nwk(args, 0);
-    let l = route_args::relays(args);
+    let l = route_args::relays(args, 1);
     if 32 < l.count {
         return refuse_list(s);
     }

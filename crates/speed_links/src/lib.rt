@@ -6,7 +6,9 @@ use neighbors::Neighbors;
 use neighbors::NwkAnswer;
 use types::Eui64;
 use types::Nwk;
+ghost use mathlib.Core.Path.{_≡_};
 ghost use Rattle.neighbors.specs.State.{WellFormed};
+ghost use Rattle.speed_links.specs.Command.{linkTo, eightLinks};
 
 // The state after a call, and what its answer adds to the sum.
 pub struct LinkTurn {
@@ -14,7 +16,9 @@ pub struct LinkTurn {
     pub weight: u64,
 }
 
-fn status(n: u8) -> LinkStatus {
+fn status(n: u8) -> LinkStatus
+    ensures { λ r. ⌜ r ≡ linkTo n ⌝ }
+{
     LinkStatus {
         address: Nwk(n as u16),
         incoming_cost: n % 8,
@@ -23,7 +27,9 @@ fn status(n: u8) -> LinkStatus {
 }
 
 // The links to 1 .. 8.
-pub fn command() -> LinkStatusCommand {
+pub fn command() -> LinkStatusCommand
+    ensures { λ r. ⌜ r ≡ eightLinks ⌝ }
+{
     let a = status(0);
     let mut statuses = [a; 31];
     statuses[0] = status(1);

@@ -9,7 +9,7 @@ use Rattle.flat_map.proofs.Shift.{unmapped}
 use Rattle.cells.specs.Listed.{listed}
 use Rattle.cells.proofs.Reading.{read-all, read-next, read-done}
 use Rattle.standard.specs.declared.DiscoveryEntry.{DiscoveryEntry}
-use Rattle.route_image.specs.Routes.{discoveryAt}
+use Rattle.route_args.specs.Read.{discoveryAt}
 use borrow.Author.Needs.{needs}
 use Rattle.route_image.proofs.discoveries.discovery_rows.Statement.{statement}
 use Rattle.route_image.proofs.discoveries.discovery_rows.Tie as tie
@@ -23,14 +23,14 @@ abbrev μ-loop : tie.MeasureT-loop
 loop-holds : tie.Need-loop-holds Inv-loop μ-loop
 loop-holds c = (search needs, search (needs, unmapped), refl, refl, read-all _ 32 (c .before .args .table .entries))
 
-mul-discovery-at : tie.Need-mul-discovery-at Inv-loop μ-loop
-mul-discovery-at c = search needs
+mul-discovery : tie.Need-mul-discovery Inv-loop μ-loop
+mul-discovery c = search needs
 
-add-discovery-at : tie.Need-add-discovery-at Inv-loop μ-loop
-add-discovery-at c = search needs
+add-discovery : tie.Need-add-discovery Inv-loop μ-loop
+add-discovery c = search needs
 
-discovery-at-requires : tie.Need-discovery-at-requires Inv-loop μ-loop
-discovery-at-requires c κs = search needs
+discovery-requires : tie.Need-discovery-requires Inv-loop μ-loop
+discovery-requires c κs = search needs
 
 mul-e : tie.Need-mul-e Inv-loop μ-loop
 mul-e c = search needs
@@ -54,7 +54,7 @@ loop-again c =
       length-set (l .t .entries) (l .i) _ ∙ l .inv .1,
       l .inv .2,
       l .inv .3,
-      ap (λ (x : DiscoveryEntry). take (l .i + 1) (set (l .t .entries) (l .i) x) ++ listed f (l .i + 1) (32 - (l .i + 1))) (c .discovery-at .ensures)
+      ap (λ (x : DiscoveryEntry). take (l .i + 1) (set (l .t .entries) (l .i) x) ++ listed f (l .i + 1) (32 - (l .i + 1))) (c .discovery .ensures)
           ∙ read-next f 32 (l .t .entries) (l .i) h (omega (arith, l .inv .1))
           ∙ l .inv .4,
     )
@@ -74,9 +74,9 @@ discovery-rows-spec =
     Inv-loop
     μ-loop
     loop-holds
-    mul-discovery-at
-    add-discovery-at
-    discovery-at-requires
+    mul-discovery
+    add-discovery
+    discovery-requires
     mul-e
     element-set-from-e
     add-i

@@ -9,7 +9,7 @@ use Rattle.flat_map.proofs.Shift.{unmapped}
 use Rattle.cells.specs.Listed.{listed}
 use Rattle.cells.proofs.Reading.{read-all, read-next, read-done}
 use Rattle.standard.specs.declared.RouteEntry.{RouteEntry}
-use Rattle.route_image.specs.Routes.{routeAt}
+use Rattle.route_args.specs.Read.{routeAt}
 use borrow.Author.Needs.{needs}
 use Rattle.route_image.proofs.routes.route_rows.Statement.{statement}
 use Rattle.route_image.proofs.routes.route_rows.Tie as tie
@@ -23,14 +23,14 @@ abbrev μ-loop : tie.MeasureT-loop
 loop-holds : tie.Need-loop-holds Inv-loop μ-loop
 loop-holds c = (search needs, search (needs, unmapped), refl, refl, read-all _ 64 (c .before .args .table .entries))
 
-mul-route-at : tie.Need-mul-route-at Inv-loop μ-loop
-mul-route-at c = search needs
+mul-route : tie.Need-mul-route Inv-loop μ-loop
+mul-route c = search needs
 
-add-route-at : tie.Need-add-route-at Inv-loop μ-loop
-add-route-at c = search needs
+add-route : tie.Need-add-route Inv-loop μ-loop
+add-route c = search needs
 
-route-at-requires : tie.Need-route-at-requires Inv-loop μ-loop
-route-at-requires c κs = search needs
+route-requires : tie.Need-route-requires Inv-loop μ-loop
+route-requires c κs = search needs
 
 mul-e : tie.Need-mul-e Inv-loop μ-loop
 mul-e c = search needs
@@ -54,7 +54,7 @@ loop-again c =
       length-set (l .t .entries) (l .i) _ ∙ l .inv .1,
       l .inv .2,
       l .inv .3,
-      ap (λ (x : RouteEntry). take (l .i + 1) (set (l .t .entries) (l .i) x) ++ listed f (l .i + 1) (64 - (l .i + 1))) (c .route-at .ensures)
+      ap (λ (x : RouteEntry). take (l .i + 1) (set (l .t .entries) (l .i) x) ++ listed f (l .i + 1) (64 - (l .i + 1))) (c .route .ensures)
           ∙ read-next f 64 (l .t .entries) (l .i) h (omega (arith, l .inv .1))
           ∙ l .inv .4,
     )
@@ -74,9 +74,9 @@ route-rows-spec =
     Inv-loop
     μ-loop
     loop-holds
-    mul-route-at
-    add-route-at
-    route-at-requires
+    mul-route
+    add-route
+    route-requires
     mul-e
     element-set-from-e
     add-i
