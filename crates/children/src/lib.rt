@@ -87,7 +87,7 @@ fn refused_truth(state: Neighbors, refusal: Refusal) -> TruthOutcome
     }
 }
 
-fn refused_taken(state: Neighbors, refusal: Refusal) -> NwkOutcome
+pub fn refused_taken(state: Neighbors, refusal: Refusal) -> NwkOutcome
     ensures { λ r. ⌜ r ≡ refusedTaken state refusal ⌝ }
 {
     NwkOutcome {

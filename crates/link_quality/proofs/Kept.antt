@@ -8,6 +8,7 @@ use Rattle.standard.specs.Rows.{putBack}
 use Rattle.neighbor_table.specs.Entry.{neighborKey}
 use Rattle.neighbor_table.specs.Table as neighbours
 use Rattle.neighbor_table.proofs.Rows.{table-fit, fit-change-first}
+use Rattle.waiting_table.specs.Table.{tableOf}
 use Rattle.waiting_table.proofs.Rows as waiting
 use Rattle.neighbor_queries.specs.declared.Filter.the-variants.{Address}
 use Rattle.neighbor_queries.specs.Filter.{fits}
@@ -18,11 +19,11 @@ use Rattle.neighbors.specs.declared.Neighbors.{Neighbors}
 use Rattle.neighbors.specs.declared.Outcome.{Outcome}
 use Rattle.neighbors.specs.State.{WellFormed, rows, waits, withRows}
 use Rattle.neighbors.proofs.Kept.{rows-formed}
-use Rattle.link_quality.specs.Samples.{waitingTable, waitingAfter, withWaiting, recordLqaCore}
+use Rattle.link_quality.specs.Samples.{waitingAfter, withWaiting, recordLqaCore}
 use Rattle.link_quality.proofs.Room.{after-fit}
 
 pub record-lqa-formed : (s : Neighbors) → WellFormed s → (nwk : Nwk) (lqi : ℕ) → WellFormed (recordLqaCore s nwk lqi .state)
 record-lqa-formed s w nwk lqi = go (neighbours.looked (first (fits (Address nwk)) (rows s)) .found) where
-  go : (b : Bool) → WellFormed (cond {A = Outcome} b (withRows s (putBack neighborKey (applied (Sample lqi)) (first (fits (Address nwk)) (rows s)) (rows s))) (withWaiting s (waitingTable (waitingAfter nwk lqi (waits s)))) .state)
+  go : (b : Bool) → WellFormed (cond {A = Outcome} b (withRows s (putBack neighborKey (applied (Sample lqi)) (first (fits (Address nwk)) (rows s)) (rows s))) (withWaiting s (tableOf (waitingAfter nwk lqi (waits s)))) .state)
   go true = rows-formed s _ w (fit-change-first (rows s) (table-fit (s .table) (w .table)) (applied (Sample lqi)) (same-key (Sample lqi)) (still-sound (Sample lqi)) (fits (Address nwk)))
   go false = record { table = w .table; pending = waiting.table-formed _ (after-fit nwk (waits s) (waiting.table-fit (s .«pending_lqas») (w .pending)) lqi) }

@@ -28,16 +28,6 @@ use Rattle.neighbors.specs.declared.Answer.the-variants.{Done}
 use Rattle.neighbors.specs.State.{wellFormed, rows, waits, withRows}
 use Rattle.neighbors.specs.Answers.{refused}
 
--- the waiting table by its own words
-abbrev pub WaitingFormed : WaitingTable → Type 0
-WaitingFormed t = waiting.WellFormed t
-
-abbrev pub waitingRows : WaitingTable → List WaitingEntry
-waitingRows t = waiting.rowsOf t
-
-abbrev pub waitingTable : List WaitingEntry → WaitingTable
-waitingTable xs = waiting.tableOf xs
-
 -- room for a sender among 64
 abbrev pub roomFor : Nwk → List WaitingEntry → List WaitingEntry
 roomFor nwk xs = cond (leb (countWith waitingKey (nwk .0) xs) 64) xs (popFirst xs)
@@ -57,7 +47,7 @@ abbrev pub recordLqaCore : Neighbors → Nwk → ℕ → Outcome
 recordLqaCore s nwk lqi =
     cond (neighbours.looked (first (fits (Address nwk)) (rows s)) .found)
     (withRows s (putBack neighborKey (applied (Sample lqi)) (first (fits (Address nwk)) (rows s)) (rows s)))
-    (withWaiting s (waitingTable (waitingAfter nwk lqi (waits s))))
+    (withWaiting s (waiting.tableOf (waitingAfter nwk lqi (waits s))))
 
 unfoldable pub recordLqa : Neighbors → Nwk → ℕ → Outcome
 recordLqa s nwk lqi = cond (wellFormed s) (recordLqaCore s nwk lqi) (refused s StateIllFormed)

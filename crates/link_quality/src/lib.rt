@@ -11,12 +11,13 @@ use waiting_table::WaitingEntry;
 use waiting_table::WaitingTable;
 ghost use mathlib.Core.Path.{_≡_};
 ghost use Rattle.neighbors.specs.State.{WellFormed};
-ghost use Rattle.link_quality.specs.Samples.{WaitingFormed, waitingRows, waitingTable, roomFor, waitingAfter, withWaiting, recordLqaCore, recordLqa};
+ghost use Rattle.waiting_table.specs.Table as waiting;
+ghost use Rattle.link_quality.specs.Samples.{roomFor, waitingAfter, withWaiting, recordLqaCore, recordLqa};
 
 // The waiting table with room for a sender: where there is none, the lowest address goes.
 fn make_room(t: WaitingTable, nwk: Nwk) -> WaitingTable
-    requires { ⌜ WaitingFormed t ⌝ }
-    ensures { λ r. ⌜ r ≡ waitingTable (roomFor nwk (waitingRows t)) ⌝ }
+    requires { ⌜ waiting.WellFormed t ⌝ }
+    ensures { λ r. ⌜ r ≡ waiting.tableOf (roomFor nwk (waiting.rowsOf t)) ⌝ }
 {
     if waiting_table::has_room(t, nwk) {
         t
@@ -27,8 +28,8 @@ fn make_room(t: WaitingTable, nwk: Nwk) -> WaitingTable
 
 // A sample more of a sender that is no neighbour yet.
 fn wait(t: WaitingTable, nwk: Nwk, lqi: u8) -> WaitingTable
-    requires { ⌜ WaitingFormed t ⌝ }
-    ensures { λ r. ⌜ r ≡ waitingTable (waitingAfter nwk lqi (waitingRows t)) ⌝ }
+    requires { ⌜ waiting.WellFormed t ⌝ }
+    ensures { λ r. ⌜ r ≡ waiting.tableOf (waitingAfter nwk lqi (waiting.rowsOf t)) ⌝ }
 {
     let roomy = make_room(t, nwk);
     let found = waiting_table::find(roomy, nwk);

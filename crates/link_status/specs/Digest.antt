@@ -35,12 +35,6 @@ use Rattle.link_status.specs.declared.LinkStatusCommand.{LinkStatusComma
 use Rattle.link_status.specs.declared.Tally.{Tally}
 use Rattle.link_status.specs.Statuses.{costsFit, isLiveAt, statusesOf, tallied}
 
-abbrev pub WaitingFormed : WaitingTable → Type 0
-WaitingFormed t = waiting.Formed64 t
-
-abbrev pub waitingRows : WaitingTable → List WaitingEntry
-waitingRows t = waiting.rowsOf t
-
 -- 0xFFFFFFFF seconds
 abbrev pub forever : ℕ
 forever = 4294967295000

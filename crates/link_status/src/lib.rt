@@ -24,7 +24,8 @@ ghost use Rattle.standard.specs.Ordered.{countWith};
 ghost use Rattle.neighbor_table.specs.Entry.{neighborKey};
 ghost use Rattle.neighbors.specs.State.{WellFormed, rows};
 ghost use Rattle.children.specs.Calls.{refusedTaken};
-ghost use Rattle.link_status.specs.Digest.{WaitingFormed, waitingRows, asRouter, begun, finished, newRouter, samplesOf, digested, admitted, onLinkStatusCore, onLinkStatus};
+ghost use Rattle.waiting_table.specs.Table as waiting;
+ghost use Rattle.link_status.specs.Digest.{asRouter, begun, finished, newRouter, samplesOf, digested, admitted, onLinkStatusCore, onLinkStatus};
 ghost use Rattle.neighbor_table.specs.Table.{Formed64, rowsOf};
 ghost use Rattle.link_status.specs.Statuses.{costsFit, worth, counted, tallied, isLiveAt, liveNumber, among, statusesOf};
 
@@ -269,21 +270,12 @@ fn new_router(name: Eui64, nwk: Nwk, at: u64, now: u64, lqas: RingBuffer) -> Nei
 
 // The samples that waited for a sender, with one more.
 fn samples(pending: WaitingTable, nwk: Nwk, lqi: u8) -> RingBuffer
-    requires { ⌜ WaitingFormed pending ⌝ }
-    ensures { λ r. ⌜ r ≡ samplesOf nwk lqi (waitingRows pending) ⌝ }
+    requires { ⌜ waiting.Formed64 pending ⌝ }
+    ensures { λ r. ⌜ r ≡ samplesOf nwk lqi (waiting.rowsOf pending) ⌝ }
 {
     let found = waiting_table::find(pending, nwk);
     let held = found.entry.lqas;
     held.push(lqi)
-}
-
-fn refused_status(state: Neighbors, refusal: Refusal) -> NwkOutcome
-    ensures { λ r. ⌜ r ≡ refusedTaken state refusal ⌝ }
-{
-    NwkOutcome {
-        answer: NwkAnswer::Refused(refusal),
-        state,
-    }
 }
 
 // The command digested into an entry that has its place; the waiting samples of the sender go.
@@ -341,10 +333,10 @@ fn admit(
                 let e = new_router(name, nwk, at, now, samples(pending, nwk, lqi));
                 digest(state, e, own, nwk, command, now)
             } else {
-                refused_status(state, Refusal::NeighborTableFull)
+                children::refused_taken(state, Refusal::NeighborTableFull)
             }
         }
-        Sum::Past => refused_status(state, Refusal::TimePastEnd),
+        Sum::Past => children::refused_taken(state, Refusal::TimePastEnd),
     }
 }
 
@@ -363,7 +355,7 @@ pub fn on_link_status(
     if state.well_formed() {
         on_link_status_core(state, own, name, nwk, lqi, command, now)
     } else {
-        refused_status(state, Refusal::StateIllFormed)
+        children::refused_taken(state, Refusal::StateIllFormed)
     }
 }
 
@@ -380,10 +372,10 @@ pub fn on_link_status_core(
     ensures { λ r. ⌜ r ≡ onLinkStatusCore state own name nwk lqi command now ⌝ }
 {
     if 31 < command.count {
-        return refused_status(state, Refusal::ListTooLong);
+        return children::refused_taken(state, Refusal::ListTooLong);
     }
     if !all_costs_fit(command) {
-        return refused_status(state, Refusal::LinkCostTooHigh);
+        return children::refused_taken(state, Refusal::LinkCostTooHigh);
     }
     let table = state.table;
     let found = neighbor_table::find(table, name);

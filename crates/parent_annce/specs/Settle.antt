@@ -11,14 +11,11 @@ use Rattle.neighbor_table.specs.declared.NeighborEntry.{NeighborEntry}
 use Rattle.neighbor_table.specs.declared.NeighborLookup.{NeighborLookup}
 use Rattle.neighbor_table.specs.declared.NeighborTable.{NeighborTable}
 use Rattle.neighbor_table.specs.Entry.{neighborKey, isEndDevice}
-use Rattle.neighbor_table.specs.Table.{WellFormed, rowsOf, tableOf, looked}
+use Rattle.neighbor_table.specs.Table.{rowsOf, tableOf, looked}
 use Rattle.neighbor_queries.specs.declared.Child.{Child}
 use Rattle.neighbor_queries.specs.declared.Eui64List.{Eui64List}
 use Rattle.neighbor_queries.specs.Lists.{euiList, childList, oneMoreEui, oneMoreChild}
 use Rattle.parent_annce.specs.declared.Settled.{Settled}
-
-abbrev pub TableFormed : NeighborTable → Type 0
-TableFormed t = WellFormed t
 
 -- how far the list has been gone through
 pub record Settling : Type 0 where

@@ -12,9 +12,10 @@ use types::Eui64;
 use types::Refusal;
 ghost use mathlib.Core.Path.{_≡_};
 ghost use Prim.Native.Nat.{_<_, _≤_};
-ghost use Rattle.neighbor_table.specs.Table.{Formed64, rowsOf};
+ghost use Rattle.neighbor_table.specs.Table.{Formed64};
+ghost use Rattle.neighbor_table.specs.Table as neighbours;
 ghost use Rattle.neighbors.specs.State.{WellFormed};
-ghost use Rattle.parent_annce.specs.Settle.{TableFormed, isHere, claimedIn, droppedIn, stepped, settled};
+ghost use Rattle.parent_annce.specs.Settle.{isHere, claimedIn, droppedIn, stepped, settled};
 ghost use Rattle.parent_annce.specs.Calls.{refusedAnnounced, removeClaimedChildrenCore, removeClaimedChildren, processParentAnnceCore, processParentAnnce};
 
 // How far a list of addresses has been gone through.
@@ -95,7 +96,7 @@ fn step(s: Settled, confirm: bool, eui64: Eui64) -> Settled
 
 // The whole list gone through, in its order.
 fn settle(t: NeighborTable, confirm: bool, list: Eui64List) -> Settled
-    requires { ⌜ TableFormed t × (list .count ≤ 64) ⌝ }
+    requires { ⌜ neighbours.WellFormed t × (list .count ≤ 64) ⌝ }
     ensures { λ r. ⌜ r ≡ settled confirm list t ⌝ }
 {
     let n = list.count;

@@ -5,24 +5,21 @@ use mathlib.Core.Bool.{Bool, true, false, cond}
 use mathlib.Core.List.{List}
 use mathlib.Core.Path.{_≡_, refl}
 use native.Mathlib.Omega.{arith}
-use borrow.Author.Tests.{leb-true, ltb-false}
+use borrow.Author.Tests.{ltb-false}
 use lib.Dec.{leb, ltb}
 use lib.ListN.{length}
 use Rattle.types.specs.declared.Nwk.{Nwk}
 use Rattle.types.specs.declared.Refusal.{Refusal}
 use Rattle.standard.specs.declared.RelayList.{RelayList}
-use Rattle.standard.specs.Ordered.{remove}
-use Rattle.standard.specs.Records.{addressKey, recordFor, relaysStored, recordStored}
+use Rattle.standard.specs.Records.{recordStored}
 use Rattle.record_table.specs.declared.RecordTable.{RecordTable}
 use Rattle.relay_store.specs.Packed.{recordsOf, Together}
 use Rattle.relay_store.specs.Store.{Agrees, relaysOf, agrees}
-use Rattle.relay_store.proofs.Packing.{packed-together}
-use Rattle.relay_store.proofs.Steps.{fits-put, fits-remove}
 use Rattle.route_record.specs.declared.RecordAnswer.the-variants.{Refused, Stored}
 use Rattle.route_record.specs.declared.RecordStep.{RecordStep}
-use Rattle.route_record.specs.Answer.{storedStep, storedStore, removedStep, removedStore}
-use Rattle.route_record.proofs.Held.{fits, relays-count}
-use Rattle.route_record.proofs.Storing.{relays-fit}
+use Rattle.route_record.specs.Answer.{storedStep, storedStore}
+use Rattle.route_record.proofs.Held.{relays-count}
+use Rattle.route_record.proofs.Kept.{stored-kept, removed-kept}
 use Rattle.routing.specs.declared.Routing.{Routing}
 use Rattle.routing.specs.declared.RecordOutcome.{RecordOutcome}
 use Rattle.routing.specs.declared.ToldAnswer.the-variants as told
@@ -40,18 +37,6 @@ both-by : {A B : Type 0} (P : A → B → Type 0) (b : Bool) (x y : A) (u v : B)
 both-by P true x y u v p q = p refl
 both-by P false x y u v p q = q refl
 
-stored-together : (t : RecordTable) (store : List ℕ) → Together t store → (source : Nwk) (relays : List Nwk) → length relays ≤ 32
-    → Together (storedStep source relays t store .table) (storedStore source relays t store)
-unfolding storedStep storedStore recordStored
-stored-together t store g source relays short =
-    both-by (λ (x : RecordStep) (u : List ℕ). Together (x .table) u) (leb (length (recordStored source relays (recordsOf t store))) 64) _ _ _ _
-    (λ free. packed-together (recordStored source relays (recordsOf t store)) (fits-put (relaysStored relays (recordsOf t store)) (relays-fit t store g source relays short free) (recordFor source relays) (leb-true _ 64 free) short))
-    (λ _. g)
-
-removed-together : (t : RecordTable) (store : List ℕ) → Together t store → (d : Nwk) → Together (removedStep d t store .table) (removedStore d t store)
-unfolding removedStep removedStore
-removed-together t store g d = packed-together (remove addressKey (d .0) (recordsOf t store)) (fits-remove (recordsOf t store) (fits t store g) (d .0))
-
 module _ (s : Routing) (store : List ℕ) (h : Held s store) where
   together : Together (s .«route_record_table») store
   together = record { formed = h .formed .records; agrees = h .agreed }
@@ -65,7 +50,7 @@ module _ (s : Routing) (store : List ℕ) (h : Held s store) where
   store-route-record-kept source relays long =
       kept (wellFormed s) _ _ _ _
       (λ _. kept (agrees (s .«route_record_table») store) _ _ _ _
-      (λ _. kept (ltb 32 (relays .count)) _ _ _ _ (λ _. h) (λ e. put-in _ _ (stored-together (s .«route_record_table») store together source (relaysOf relays) (few (ltb-false 32 (relays .count) e)))))
+      (λ _. kept (ltb 32 (relays .count)) _ _ _ _ (λ _. h) (λ e. put-in _ _ (stored-kept (s .«route_record_table») store together source (relaysOf relays) (few (ltb-false 32 (relays .count) e)))))
       (λ _. h))
       (λ _. h) where
         kept : (b : Bool) (x y : RecordOutcome) (u v : List ℕ) → (b ≡ true → Held (x .state) u) → (b ≡ false → Held (y .state) v) → Held (cond b x y .state) (cond b u v)
@@ -78,7 +63,7 @@ module _ (s : Routing) (store : List ℕ) (h : Held s store) where
   unfolding removeRouteRecord storeAfterRemoval
   remove-route-record-kept d =
       kept (wellFormed s) _ _ _ _
-      (λ _. kept (agrees (s .«route_record_table») store) _ _ _ _ (λ _. put-in _ _ (removed-together (s .«route_record_table») store together d)) (λ _. h))
+      (λ _. kept (agrees (s .«route_record_table») store) _ _ _ _ (λ _. put-in _ _ (removed-kept (s .«route_record_table») store together d)) (λ _. h))
       (λ _. h) where
         kept : (b : Bool) (x y : ToldOutcome) (u v : List ℕ) → (b ≡ true → Held (x .state) u) → (b ≡ false → Held (y .state) v) → Held (cond b x y .state) (cond b u v)
         kept = both-by (λ (x : ToldOutcome) (u : List ℕ). Held (x .state) u)

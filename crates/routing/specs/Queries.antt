@@ -2,7 +2,7 @@
 -- Document 01, "Route rules", "Refusal numbers", and the table check of "Modules, leaves first".
 -- Assumes nothing.
 use Prim.Native.Nat.{ℕ, _+_, min}
-use mathlib.Core.Bool.{cond}
+use mathlib.Core.Bool.{Bool, cond}
 use lib.Dec.{leb}
 use lib.ListN.{length}
 use Rattle.types.specs.declared.Nwk.{Nwk}
@@ -111,19 +111,33 @@ nextHopCore s destination = hopOutcome (hopAnswer (hopAt (destination .0) (rowsO
 unfoldable pub nextHop : Routing → Nwk → HopOutcome
 nextHop s destination = cond (wellFormed s) (nextHopCore s destination) (hop-outcome.Refused StateIllFormed)
 
--- A route failure was heard: whether the signals reach the threshold. "the two trigger counters at 255. A trigger fires at or above its threshold."
+-- "the two trigger counters at 255"
+abbrev pub nextCount : ℕ → ℕ
+nextCount n = min (n + 1) 255
+
+-- "A trigger fires at or above its threshold."
+abbrev pub firesAt : ℕ → ℕ → Bool
+firesAt n threshold = leb threshold n
+
+-- A route failure was heard: whether the signals reach the threshold.
 abbrev pub noteRouteErrorCore : Routing → ℕ → ToldOutcome
-noteRouteErrorCore s threshold = record { answer = told.Told (leb threshold (min (s .«mtorr_route_errors» + 1) 255)); state = withTriggers s (min (s .«mtorr_route_errors» + 1) 255) (s .«mtorr_delivery_failures») }
+noteRouteErrorCore s threshold = record {
+  answer = told.Told (firesAt (nextCount (s .«mtorr_route_errors»)) threshold);
+  state = withTriggers s (nextCount (s .«mtorr_route_errors»)) (s .«mtorr_delivery_failures»);
+}
 
 unfoldable pub noteRouteError : Routing → ℕ → ToldOutcome
-noteRouteError s threshold = cond (wellFormed s) (noteRouteErrorCore s threshold) (refusedTold s)
+noteRouteError s threshold = cond (wellFormed s) (noteRouteErrorCore s threshold) (refusedTold s StateIllFormed)
 
--- A delivery of our own failed: whether the signals reach the threshold. "the two trigger counters at 255. A trigger fires at or above its threshold."
+-- A delivery of our own failed: whether the signals reach the threshold.
 abbrev pub noteDeliveryFailureCore : Routing → ℕ → ToldOutcome
-noteDeliveryFailureCore s threshold = record { answer = told.Told (leb threshold (min (s .«mtorr_delivery_failures» + 1) 255)); state = withTriggers s (s .«mtorr_route_errors») (min (s .«mtorr_delivery_failures» + 1) 255) }
+noteDeliveryFailureCore s threshold = record {
+  answer = told.Told (firesAt (nextCount (s .«mtorr_delivery_failures»)) threshold);
+  state = withTriggers s (s .«mtorr_route_errors») (nextCount (s .«mtorr_delivery_failures»));
+}
 
 unfoldable pub noteDeliveryFailure : Routing → ℕ → ToldOutcome
-noteDeliveryFailure s threshold = cond (wellFormed s) (noteDeliveryFailureCore s threshold) (refusedTold s)
+noteDeliveryFailure s threshold = cond (wellFormed s) (noteDeliveryFailureCore s threshold) (refusedTold s StateIllFormed)
 
 -- A many-to-one request went out: the signals are spent.
 abbrev pub resetMtorrTriggersCore : Routing → DoneOutcome

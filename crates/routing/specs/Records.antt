@@ -40,6 +40,7 @@ use Rattle.routing.specs.declared.RouteToAnswer.the-variants as way
 use Rattle.routing.specs.declared.RouteToOutcome.{RouteToOutcome}
 use Rattle.routing.specs.declared.ToldAnswer.the-variants as told
 use Rattle.routing.specs.declared.ToldOutcome.{ToldOutcome}
+use Rattle.routing.specs.Routes.{refusedTold}
 use Rattle.routing.specs.State.{wellFormed}
 
 -- the state with its record table replaced
@@ -62,9 +63,6 @@ unrecordedIn s x = record { answer = told.Told (x .removed); state = withRecords
 -- "All hand back the given state .. and store unchanged and no other answer."
 abbrev pub refusedRecord : Routing → Refusal → RecordOutcome
 refusedRecord s n = record { answer = record-answer.Refused n; state = s }
-
-abbrev pub refusedRemoval : Routing → Refusal → ToldOutcome
-refusedRemoval s n = record { answer = told.Refused n; state = s }
 
 abbrev pub refusedWay : Refusal → RouteToOutcome
 refusedWay n = record { answer = way.Refused n; relays = relayList [] }
@@ -100,8 +98,8 @@ storeAfterRemovalCore s destination store = removedStore destination (s .«route
 unfoldable pub removeRouteRecord : Routing → Nwk → List ℕ → ToldOutcome
 removeRouteRecord s destination store =
     cond (wellFormed s)
-    (cond (agrees (s .«route_record_table») store) (removeRouteRecordCore s destination store) (refusedRemoval s StoreDisagrees))
-    (refusedRemoval s StateIllFormed)
+    (cond (agrees (s .«route_record_table») store) (removeRouteRecordCore s destination store) (refusedTold s StoreDisagrees))
+    (refusedTold s StateIllFormed)
 
 unfoldable pub storeAfterRemoval : Routing → Nwk → List ℕ → List ℕ
 storeAfterRemoval s destination store =

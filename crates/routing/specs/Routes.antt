@@ -5,6 +5,7 @@ use Prim.Native.Nat.{ℕ}
 use mathlib.Core.Bool.{cond}
 use mathlib.Core.List.{map}
 use Rattle.types.specs.declared.Nwk.{Nwk}
+use Rattle.types.specs.declared.Refusal.{Refusal}
 use Rattle.types.specs.declared.Refusal.the-variants.{StateIllFormed}
 use Rattle.standard.specs.declared.Status.the-variants.{DiscoveryFailed}
 use Rattle.standard.specs.Calls as calls
@@ -45,8 +46,8 @@ removedFrom s x = record { answer = Told (x .removed); state = withRoutes s (x .
 abbrev pub refusedDone : Routing → DoneOutcome
 refusedDone s = record { answer = route-answer.Refused StateIllFormed; state = s }
 
-abbrev pub refusedTold : Routing → ToldOutcome
-refusedTold s = record { answer = Refused StateIllFormed; state = s }
+abbrev pub refusedTold : Routing → Refusal → ToldOutcome
+refusedTold s n = record { answer = Refused n; state = s }
 
 -- No discovery of the way to a destination has brought one.
 abbrev pub markDiscoveryFailedCore : Routing → Nwk → DoneOutcome
@@ -78,17 +79,17 @@ decayActivity s = cond (wellFormed s) (decayActivityCore s) (refusedDone s)
 
 -- A next hop is lost: every Active route by it is Inactive.
 abbrev pub invalidateViaCore : Routing → Nwk → DoneOutcome
-invalidateViaCore s nexthop = doneWith s (tableOf (map (unlinked nexthop) (rowsOf (s .«route_table»))))
+invalidateViaCore s hop = doneWith s (tableOf (map (unlinked hop) (rowsOf (s .«route_table»))))
 
 unfoldable pub invalidateVia : Routing → Nwk → DoneOutcome
-invalidateVia s nexthop = cond (wellFormed s) (invalidateViaCore s nexthop) (refusedDone s)
+invalidateVia s hop = cond (wellFormed s) (invalidateViaCore s hop) (refusedDone s)
 
 -- A client hands back a route on startup; the whole entry is written anew.
 abbrev pub restoreRouteCore : Routing → Nwk → Nwk → ℕ → DoneOutcome
-restoreRouteCore s destination nexthop pathcost = steppedTo s (stepTo (s .«route_table») (calls.restoreRoute destination nexthop pathcost (rowsOf (s .«route_table»))))
+restoreRouteCore s destination hop cost = steppedTo s (stepTo (s .«route_table») (calls.restoreRoute destination hop cost (rowsOf (s .«route_table»))))
 
 unfoldable pub restoreRoute : Routing → Nwk → Nwk → ℕ → DoneOutcome
-restoreRoute s destination nexthop pathcost = cond (wellFormed s) (restoreRouteCore s destination nexthop pathcost) (refusedDone s)
+restoreRoute s destination hop cost = cond (wellFormed s) (restoreRouteCore s destination hop cost) (refusedDone s)
 
 -- A search of another's was relayed: the route to its destination is underway, unless it is Active.
 abbrev pub noteRelayedDiscoveryCore : Routing → Nwk → DoneOutcome
@@ -102,4 +103,4 @@ abbrev pub removeRouteCore : Routing → Nwk → ToldOutcome
 removeRouteCore s destination = removedFrom s (removal (destination .0) (rowsOf (s .«route_table»)))
 
 unfoldable pub removeRoute : Routing → Nwk → ToldOutcome
-removeRoute s destination = cond (wellFormed s) (removeRouteCore s destination) (refusedTold s)
+removeRoute s destination = cond (wellFormed s) (removeRouteCore s destination) (refusedTold s StateIllFormed)

@@ -28,19 +28,27 @@ use Rattle.routing.specs.State.{wellFormed, searchOf, withSearch, withId
 abbrev pub replied : Routing → ReplyStep → RouteReplyOutcome
 replied s x = record { answer = x .answer; state = withSearch s (x .tables) }
 
+-- A reply to a search of ours or of another node.
+abbrev pub acceptRouteReplyCore : Routing → Nwk → Nwk → ℕ → Nwk → Nwk → ℕ → RouteReplyOutcome
+acceptRouteReplyCore s own originator id responder sender cost = replied s (answered (searchOf s) (reply own originator id responder sender cost (tablesOf (searchOf s))))
+
 unfoldable pub acceptRouteReply : Routing → Nwk → Nwk → ℕ → Nwk → Nwk → ℕ → RouteReplyOutcome
 acceptRouteReply s own originator id responder sender cost =
     cond (wellFormed s)
-    (replied s (answered (searchOf s) (reply own originator id responder sender cost (tablesOf (searchOf s)))))
+    (acceptRouteReplyCore s own originator id responder sender cost)
     (record { answer = reply-answer.Refused StateIllFormed; state = s })
 
 abbrev pub requestAnswered : Routing → RequestStep → RouteRequestOutcome
 requestAnswered s x = record { answer = x .answer; state = withSearch s (x .tables) }
 
+-- A request of another node's search.
+abbrev pub acceptRouteRequestCore : Routing → Nwk → ℕ → Nwk → Nwk → ℕ → ManyToOne → ℕ → ℕ → RouteRequestOutcome
+acceptRouteRequestCore s originator id destination sender cost manyToOne now span = requestAnswered s (requested (searchOf s) originator id destination sender cost manyToOne now span)
+
 unfoldable pub acceptRouteRequest : Routing → Nwk → ℕ → Nwk → Nwk → ℕ → ManyToOne → ℕ → ℕ → RouteRequestOutcome
 acceptRouteRequest s originator id destination sender cost manyToOne now span =
     cond (wellFormed s)
-    (requestAnswered s (requested (searchOf s) originator id destination sender cost manyToOne now span))
+    (acceptRouteRequestCore s originator id destination sender cost manyToOne now span)
     (record { answer = request-answer.Refused StateIllFormed; state = s })
 
 -- "the id goes up by one, 255 to 0"; a refused call hands back the state with its id
@@ -54,14 +62,22 @@ begunAs s id x = begunBy (x .answer) s id (x .tables)
 abbrev pub nextId : Routing → ℕ
 nextId s = (s .«request_sequence_number» + 1) % 256
 
+-- A search of our own.
+abbrev pub beginDiscoveryCore : Routing → Nwk → Nwk → ℕ → ℕ → BeginOutcome
+beginDiscoveryCore s own destination now span = begunAs s (nextId s) (begun (searchOf s) own (nextId s) destination now span)
+
 unfoldable pub beginDiscovery : Routing → Nwk → Nwk → ℕ → ℕ → BeginOutcome
 beginDiscovery s own destination now span =
     cond (wellFormed s)
-    (begunAs s (nextId s) (begun (searchOf s) own (nextId s) destination now span))
+    (beginDiscoveryCore s own destination now span)
     (record { answer = Refused StateIllFormed; state = s })
+
+-- A many-to-one advertisement.
+abbrev pub beginManyToOneAdvertisementCore : Routing → Nwk → ℕ → ℕ → BeginOutcome
+beginManyToOneAdvertisementCore s own now span = begunAs s (nextId s) (advertised (searchOf s) own (nextId s) now span)
 
 unfoldable pub beginManyToOneAdvertisement : Routing → Nwk → ℕ → ℕ → BeginOutcome
 beginManyToOneAdvertisement s own now span =
     cond (wellFormed s)
-    (begunAs s (nextId s) (advertised (searchOf s) own (nextId s) now span))
+    (beginManyToOneAdvertisementCore s own now span)
     (record { answer = Refused StateIllFormed; state = s })

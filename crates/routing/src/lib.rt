@@ -25,13 +25,7 @@ use types::Nwk;
 use types::Refusal;
 ghost use mathlib.Core.Path.{_≡_};
 ghost use Rattle.routing.specs.State.{WellFormed, wellFormed, fresh, searchOf, withSearch};
-ghost use Rattle.routing.specs.Search.{replied, requestAnswered, begunAs, acceptRouteReply, acceptRouteRequest, beginDiscovery, beginManyToOneAdvertisement};
-ghost use Rattle.route_reply.specs.Answer as reply;
-ghost use Rattle.route_request.specs.Answer as request;
-ghost use Rattle.route_begin.specs.Answer as begin;
-ghost use Rattle.standard.specs.Reply as rule;
-ghost use Rattle.search_tables.specs.Packed.{tablesOf};
-ghost use Prim.Native.Nat.{_+_, _%_};
+ghost use Rattle.routing.specs.Search.{begunAs, acceptRouteReplyCore, acceptRouteReply, acceptRouteRequestCore, acceptRouteRequest, beginDiscoveryCore, beginDiscovery, beginManyToOneAdvertisementCore, beginManyToOneAdvertisement};
 
 // The trigger counters, the three tables and the last request id.
 pub struct Routing {
@@ -121,7 +115,7 @@ pub struct BeginOutcome {
     pub state: Routing,
 }
 
-// That a route record changed what is known of its source, and the state after it.
+// Whether a route record changed what is known of its source, and the state after it.
 pub struct RecordOutcome {
     pub answer: RecordAnswer,
     pub state: Routing,
@@ -217,7 +211,7 @@ impl Routing {
         updated_path_cost: u8,
     ) -> RouteReplyOutcome
         requires { ⌜ WellFormed self ⌝ }
-        ensures { λ r. ⌜ r ≡ replied self (reply.answered (searchOf self) (rule.reply own originator «request_id» responder sender «updated_path_cost» (tablesOf (searchOf self)))) ⌝ }
+        ensures { λ r. ⌜ r ≡ acceptRouteReplyCore self own originator «request_id» responder sender «updated_path_cost» ⌝ }
     {
         let t = self.search_part();
         let x = route_reply::reply(
@@ -275,7 +269,7 @@ impl Routing {
         route_discovery_time: u64,
     ) -> RouteRequestOutcome
         requires { ⌜ WellFormed self ⌝ }
-        ensures { λ r. ⌜ r ≡ requestAnswered self (request.requested (searchOf self) originator «request_id» destination sender «updated_path_cost» «many_to_one» now «route_discovery_time») ⌝ }
+        ensures { λ r. ⌜ r ≡ acceptRouteRequestCore self originator «request_id» destination sender «updated_path_cost» «many_to_one» now «route_discovery_time» ⌝ }
     {
         let t = self.search_part();
         let x = route_request::request(
@@ -354,7 +348,7 @@ impl Routing {
         route_discovery_time: u64,
     ) -> BeginOutcome
         requires { ⌜ WellFormed self ⌝ }
-        ensures { λ r. ⌜ r ≡ begunAs self ((self .«request_sequence_number» + 1) % 256) (begin.begun (searchOf self) own ((self .«request_sequence_number» + 1) % 256) destination now «route_discovery_time») ⌝ }
+        ensures { λ r. ⌜ r ≡ beginDiscoveryCore self own destination now «route_discovery_time» ⌝ }
     {
         let t = self.search_part();
         let id = types::next_id(self.request_sequence_number);
@@ -388,7 +382,7 @@ impl Routing {
         route_discovery_time: u64,
     ) -> BeginOutcome
         requires { ⌜ WellFormed self ⌝ }
-        ensures { λ r. ⌜ r ≡ begunAs self ((self .«request_sequence_number» + 1) % 256) (begin.advertised (searchOf self) own ((self .«request_sequence_number» + 1) % 256) now «route_discovery_time») ⌝ }
+        ensures { λ r. ⌜ r ≡ beginManyToOneAdvertisementCore self own now «route_discovery_time» ⌝ }
     {
         let t = self.search_part();
         let id = types::next_id(self.request_sequence_number);

@@ -190,7 +190,7 @@ impl Routing {
         ensures { λ r. ⌜ r ≡ noteRouteError self threshold ⌝ }
     {
         if !self.well_formed() {
-            return self.refuse_told();
+            return self.refuse_told(Refusal::StateIllFormed);
         }
         self.note_route_error_core(threshold)
     }
@@ -212,7 +212,7 @@ impl Routing {
         ensures { λ r. ⌜ r ≡ noteDeliveryFailure self threshold ⌝ }
     {
         if !self.well_formed() {
-            return self.refuse_told();
+            return self.refuse_told(Refusal::StateIllFormed);
         }
         self.note_delivery_failure_core(threshold)
     }

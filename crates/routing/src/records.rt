@@ -20,7 +20,7 @@ ghost use mathlib.Core.Path.{_≡_};
 ghost use Prim.Native.Nat.{_≤_};
 ghost use Rattle.relay_store.specs.Store.{Agrees};
 ghost use Rattle.routing.specs.State.{WellFormed};
-ghost use Rattle.routing.specs.Records.{withRecords, refusedRecord, refusedRemoval, refusedWay, storeRouteRecordCore, storeRouteRecord, storeAfterRecordCore, storeAfterRecord, removeRouteRecordCore, removeRouteRecord, storeAfterRemovalCore, storeAfterRemoval, hopTo, answerBy, routeToCore, routeTo, routeToDefault, recordCountCore, recordCount, recordHere, refusedRecordAt, recordAtCore, recordAt};
+ghost use Rattle.routing.specs.Records.{withRecords, refusedRecord, refusedWay, storeRouteRecordCore, storeRouteRecord, storeAfterRecordCore, storeAfterRecord, removeRouteRecordCore, removeRouteRecord, storeAfterRemovalCore, storeAfterRemoval, hopTo, answerBy, routeToCore, routeTo, routeToDefault, recordCountCore, recordCount, recordHere, refusedRecordAt, recordAtCore, recordAt};
 
 // The hop that the route table names, as the way: one that is not known is refusal 6.
 fn hop_to(hop: HopAnswer) -> RouteToAnswer
@@ -81,16 +81,6 @@ impl Routing {
     {
         RecordOutcome {
             answer: RecordAnswer::Refused(refusal),
-            state: self,
-        }
-    }
-
-    // The state as it came, for a refusal.
-    fn refuse_removal(self, refusal: Refusal) -> ToldOutcome
-        ensures { λ r. ⌜ r ≡ refusedRemoval self refusal ⌝ }
-    {
-        ToldOutcome {
-            answer: ToldAnswer::Refused(refusal),
             state: self,
         }
     }
@@ -157,11 +147,11 @@ impl Routing {
         ensures { λ _. ⌜ now (store .exit) ≡ storeAfterRemoval self destination (now (store .entry)) ⌝ }
     {
         if !self.well_formed() {
-            return self.refuse_removal(Refusal::StateIllFormed);
+            return self.refuse_told(Refusal::StateIllFormed);
         }
         let t = self.route_record_table;
         if !relay_store::agrees(t, store) {
-            return self.refuse_removal(Refusal::StoreDisagrees);
+            return self.refuse_told(Refusal::StoreDisagrees);
         }
         self.remove_route_record_core(store, destination)
     }

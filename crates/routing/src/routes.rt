@@ -66,12 +66,12 @@ impl Routing {
         }
     }
 
-    // The state as it came: it is not well formed.
-    pub(crate) fn refuse_told(self) -> ToldOutcome
-        ensures { λ r. ⌜ r ≡ refusedTold self ⌝ }
+    // The state as it came, for a refusal.
+    pub(crate) fn refuse_told(self, refusal: Refusal) -> ToldOutcome
+        ensures { λ r. ⌜ r ≡ refusedTold self refusal ⌝ }
     {
         ToldOutcome {
-            answer: ToldAnswer::Refused(Refusal::StateIllFormed),
+            answer: ToldAnswer::Refused(refusal),
             state: self,
         }
     }
@@ -223,7 +223,7 @@ impl Routing {
         ensures { λ r. ⌜ r ≡ removeRoute self destination ⌝ }
     {
         if !self.well_formed() {
-            return self.refuse_told();
+            return self.refuse_told(Refusal::StateIllFormed);
         }
         self.remove_route_core(destination)
     }

@@ -1,19 +1,12 @@
 -- The two trigger counters as a record of their own: what a signal and a reset make of them.
 -- Document 01, "Route rules": "the two trigger counters at 255. A trigger fires at or above its threshold."
 -- Assumes nothing.
-use Prim.Native.Nat.{ℕ, _+_, min}
+use Prim.Native.Nat.{ℕ}
 use mathlib.Core.Bool.{Bool, false, cond}
-use lib.Dec.{leb, eqb}
+use lib.Dec.{eqb}
+use Rattle.routing.specs.Queries.{nextCount, firesAt}
 use Rattle.triggers.specs.declared.Triggers.{Triggers}
 use Rattle.triggers.specs.declared.Noted.{Noted}
-
--- "the two trigger counters at 255"
-abbrev pub nextCount : ℕ → ℕ
-nextCount n = min (n + 1) 255
-
--- "A trigger fires at or above its threshold."
-abbrev pub firesAt : ℕ → ℕ → Bool
-firesAt n threshold = leb threshold n
 
 -- the two counts as a record
 abbrev pub countersOf : ℕ → ℕ → Triggers

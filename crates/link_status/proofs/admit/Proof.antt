@@ -37,14 +37,14 @@ digest-requires c κs =
       s .pre .2,
     )
 
-refused-status-requires : tie.Need-refused-status-requires
-refused-status-requires c κs = search needs
+refused-taken-requires : tie.Need-refused-taken-requires
+refused-taken-requires c κs = search needs
 
 enum-told : tie.Need-enum-told
 enum-told c = search needs
 
-refused-status-requires-2 : tie.Need-refused-status-requires-2
-refused-status-requires-2 c κs = search needs
+refused-taken-requires-2 : tie.Need-refused-taken-requires-2
+refused-taken-requires-2 c κs = search needs
 
 returns : tie.Need-returns
 returns c =
@@ -57,14 +57,14 @@ returns c =
 returns-2 : tie.Need-returns-2
 returns-2 c =
     let a = c .before .before .before .before .before .before .before .before .before .args in
-    c .refused-status .ensures
+    c .refused-taken .ensures
     ∙ sym (picks-second _ _ (sym (c .before .before .has-room .ensures) ∙ c .before .if1 .left))
     ∙ ap (admittedBy (a .state) (a .own) (a .name) (a .nwk) (a .lqi) (a .command) (a .now)) (sym (c .before .before .before .before .before .before .sum .given .1) ∙ c .before .before .before .before .before .before .before .before .time-sum .ensures)
 
 returns-3 : tie.Need-returns-3
 returns-3 c =
     let a = c .before .before .before .before .args in
-    c .refused-status2 .ensures ∙ ap (admittedBy (a .state) (a .own) (a .name) (a .nwk) (a .lqi) (a .command) (a .now)) (sym (c .before .enum-told .given .1) ∙ c .before .before .before .time-sum .ensures)
+    c .refused-taken2 .ensures ∙ ap (admittedBy (a .state) (a .own) (a .name) (a .nwk) (a .lqi) (a .command) (a .now)) (sym (c .before .enum-told .given .1) ∙ c .before .before .before .time-sum .ensures)
 
 pub admit-spec : {M : Type 1} → statement M
 admit-spec =
@@ -76,9 +76,9 @@ admit-spec =
     samples-requires
     new-router-requires
     digest-requires
-    refused-status-requires
+    refused-taken-requires
     enum-told
-    refused-status-requires-2
+    refused-taken-requires-2
     returns
     returns-2
     returns-3)

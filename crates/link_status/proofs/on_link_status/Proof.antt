@@ -13,8 +13,8 @@ well-formed-requires c κs = search needs
 on-link-status-core-requires : tie.Need-on-link-status-core-requires
 on-link-status-core-requires c κs = well-formed-told _ .fact (sym (c .before .well-formed .ensures) ∙ c .if1 .taken)
 
-refused-status-requires : tie.Need-refused-status-requires
-refused-status-requires c κs = search needs
+refused-taken-requires : tie.Need-refused-taken-requires
+refused-taken-requires c κs = search needs
 
 returns : tie.Need-returns
 unfolding onLinkStatus
@@ -22,7 +22,7 @@ returns c = c .on-link-status-core .ensures ∙ sym (picks-first _ _ (sym (c .be
 
 returns-2 : tie.Need-returns-2
 unfolding onLinkStatus
-returns-2 c = c .refused-status .ensures ∙ sym (picks-second _ _ (sym (c .before .before .well-formed .ensures) ∙ c .before .if1 .left))
+returns-2 c = c .refused-taken .ensures ∙ sym (picks-second _ _ (sym (c .before .before .well-formed .ensures) ∙ c .before .if1 .left))
 
 pub on-link-status-spec : {M : Type 1} → statement M
 on-link-status-spec =
@@ -30,6 +30,6 @@ on-link-status-spec =
     (tie.spec
     well-formed-requires
     on-link-status-core-requires
-    refused-status-requires
+    refused-taken-requires
     returns
     returns-2)

@@ -15,21 +15,21 @@ use Rattle.link_status.specs.Digest.{heardIn}
 use Rattle.link_status.proofs.on_link_status_core.Statement.{statement}
 use Rattle.link_status.proofs.on_link_status_core.Tie as tie
 
-refused-status-requires : tie.Need-refused-status-requires
-refused-status-requires c κs = search needs
+refused-taken-requires : tie.Need-refused-taken-requires
+refused-taken-requires c κs = search needs
 
 returns : tie.Need-returns
-returns c = c .refused-status .ensures ∙ sym (picks-first _ _ (lt-ltb 31 _ (c .before .if1 .taken)))
+returns c = c .refused-taken .ensures ∙ sym (picks-first _ _ (lt-ltb 31 _ (c .before .if1 .taken)))
 
 all-costs-fit-requires : tie.Need-all-costs-fit-requires
 all-costs-fit-requires c κs = search needs
 
-refused-status-requires-2 : tie.Need-refused-status-requires-2
-refused-status-requires-2 c κs = search needs
+refused-taken-requires-2 : tie.Need-refused-taken-requires-2
+refused-taken-requires-2 c κs = search needs
 
 returns-2 : tie.Need-returns-2
 returns-2 c =
-    c .refused-status2 .ensures
+    c .refused-taken2 .ensures
     ∙ sym (picks-first _ _ (ap not (sym (c .before .before .all-costs-fit .ensures) ∙ not-true _ (c .before .if2 .taken))))
     ∙ sym (picks-second _ _ (le-ltb 31 _ (c .before .before .before .if1 .left)))
 
@@ -74,10 +74,10 @@ pub on-link-status-core-spec : {M : Type 1} → statement M
 on-link-status-core-spec =
     tie.close
     (tie.spec
-    refused-status-requires
+    refused-taken-requires
     returns
     all-costs-fit-requires
-    refused-status-requires-2
+    refused-taken-requires-2
     returns-2
     find-requires
     digest-requires

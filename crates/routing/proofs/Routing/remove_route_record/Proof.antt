@@ -12,20 +12,20 @@ use Rattle.routing.proofs.Routing.remove_route_record.Tie as tie
 well-formed-requires : tie.Need-well-formed-requires
 well-formed-requires c κs = search needs
 
-refuse-removal-requires : tie.Need-refuse-removal-requires
-refuse-removal-requires c κs = search needs
+refuse-told-requires : tie.Need-refuse-told-requires
+refuse-told-requires c κs = search needs
 
 returns : tie.Need-returns
 unfolding removeRouteRecord storeAfterRemoval
 returns c =
     let ill = sym (c .before .before .well-formed .ensures) ∙ not-true _ (c .before .if1 .taken) in
-    (rw ill (c .refuse-removal .ensures), rw ill)
+    (rw ill (c .refuse-told .ensures), rw ill)
 
 agrees-requires : tie.Need-agrees-requires
 agrees-requires c κs = search needs
 
-refuse-removal-requires-2 : tie.Need-refuse-removal-requires-2
-refuse-removal-requires-2 c κs = search needs
+refuse-told-requires-2 : tie.Need-refuse-told-requires-2
+refuse-told-requires-2 c κs = search needs
 
 same-length : tie.Need-same-length
 same-length c = search needs
@@ -35,7 +35,7 @@ unfolding removeRouteRecord storeAfterRemoval
 returns-2 c =
     let good = sym (c .before .before .before .before .before .before .well-formed .ensures) ∙ not-false _ (c .before .before .before .before .before .if1 .left) in
     let off = sym (c .before .before .agrees .ensures) ∙ not-true _ (c .before .if2 .taken) in
-    (rw (good, off) (c .refuse-removal2 .ensures), rw (good, off))
+    (rw (good, off) (c .refuse-told2 .ensures), rw (good, off))
 
 remove-route-record-core-requires : tie.Need-remove-route-record-core-requires
 remove-route-record-core-requires c κs =
@@ -56,10 +56,10 @@ remove-route-record-spec =
     tie.close
     (tie.spec
     well-formed-requires
-    refuse-removal-requires
+    refuse-told-requires
     returns
     agrees-requires
-    refuse-removal-requires-2
+    refuse-told-requires-2
     same-length
     returns-2
     remove-route-record-core-requires
