@@ -18,7 +18,7 @@ use Rattle.relay_store.proofs.Cells.{list-count}
 use Rattle.route_calls.specs.declared.HopAnswer.{HopAnswer}
 use Rattle.route_calls.specs.declared.HopAnswer.the-variants as hop
 use Rattle.route_calls.specs.Answer.{hopAnswer}
-use Rattle.route_record.specs.Answer.{recordAt, listed, wayTo}
+use Rattle.route_record.specs.Answer.{recordOf, listed, wayTo}
 use Rattle.route_record.proofs.Looked.{Short, short-held}
 use Rattle.routing.specs.declared.Routing.{Routing}
 use Rattle.routing.specs.declared.RouteToAnswer.the-variants as way
@@ -48,4 +48,4 @@ pub way-fits : (r : Routing) (store : List ℕ) → WellFormed r → Agrees (r .
     → WayFits (routeToCore r d limit store)
 unfolding wayTo
 way-fits r store w g d limit =
-    by-record r d limit (recordAt d (r .«route_record_table») store) (short-held (r .«route_record_table») store (record { formed = w .records; agrees = g }) d)
+    by-record r d limit (recordOf d (r .«route_record_table») store) (short-held (r .«route_record_table») store (record { formed = w .records; agrees = g }) d)

@@ -19,7 +19,7 @@ use Rattle.relay_store.specs.Packed.{recordsOf, Together}
 use Rattle.relay_store.proofs.Cells.{list-relays, list-count}
 use Rattle.route_record.specs.declared.RecordRow.{RecordRow}
 use Rattle.route_record.specs.declared.RecordWay.{RecordWay}
-use Rattle.route_record.specs.Answer.{recordAt, rowFor, listed}
+use Rattle.route_record.specs.Answer.{recordOf, rowFor, listed}
 use Rattle.route_record.proofs.Held.{fits}
 use Rattle.route_record.proofs.Relays.{way-direct, way-short, way-long}
 
@@ -27,7 +27,7 @@ use Rattle.route_record.proofs.Relays.{way-direct, way-short, way-long}
 abbrev pub Short : Option RouteRecord → Type 0
 Short o = (x : RouteRecord) → o ≡ some x → ShortWay x
 
-pub short-held : (t : RecordTable) (s : List ℕ) → Together t s → (destination : Nwk) → Short (recordAt destination t s)
+pub short-held : (t : RecordTable) (s : List ℕ) → Together t s → (destination : Nwk) → Short (recordOf destination t s)
 short-held t s g destination x e = each-found addressKey ShortWay (destination .0) (recordsOf t s) x (fits t s g .short) e
 
 no-relay : (relays : List Nwk) → length relays ≡ 0 → relays ≡ []

@@ -30,8 +30,8 @@ abbrev pub relaysPut : List Nwk → RecordTable → List ℕ → List RouteRecor
 relaysPut relays t store = relaysStored relays (recordsOf t store)
 
 -- the record of a destination
-abbrev pub recordAt : Nwk → RecordTable → List ℕ → Option RouteRecord
-recordAt destination t store = lookup addressKey (destination .0) (recordsOf t store)
+abbrev pub recordOf : Nwk → RecordTable → List ℕ → Option RouteRecord
+recordOf destination t store = lookup addressKey (destination .0) (recordsOf t store)
 
 -- an ordered list of addresses with one more
 abbrev pub withAddress : Nwk → List ℕ → List ℕ
@@ -68,7 +68,7 @@ storedStore source relays t store =
 -- the record of a destination removed, and whether there was one
 unfoldable pub removedStep : Nwk → RecordTable → List ℕ → RecordRemoved
 removedStep destination t store = record {
-  removed = isThere (recordAt destination t store);
+  removed = isThere (recordOf destination t store);
   table = tableFor (remove addressKey (destination .0) (recordsOf t store));
 }
 
@@ -80,7 +80,7 @@ listed w = record { route = w .route; relays = relayList (w .relays) }
 
 -- the way that a destination's record names
 unfoldable pub wayTo : Nwk → ℕ → RecordTable → List ℕ → RecordWay
-wayTo destination limit t store = listed (wayBy limit (recordAt destination t store))
+wayTo destination limit t store = listed (wayBy limit (recordOf destination t store))
 
 -- the record at a place with its relays, and nothing from the count on
 abbrev pub rowFor : Option RouteRecord → RecordRow
@@ -92,4 +92,4 @@ recordHeld i t store = rowFor (entryAt i (recordsOf t store))
 
 -- the record of a destination with its relays
 unfoldable pub recordFound : Nwk → RecordTable → List ℕ → RecordRow
-recordFound destination t store = rowFor (recordAt destination t store)
+recordFound destination t store = rowFor (recordOf destination t store)

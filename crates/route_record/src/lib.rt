@@ -17,7 +17,7 @@ ghost use Rattle.standard.specs.Records.{sameRelays, otherRelays};
 ghost use Rattle.record_table.specs.Table.{WellFormed, rowsOf};
 ghost use Rattle.relay_store.specs.Store.{relaysOf, relayList};
 ghost use Rattle.relay_store.specs.Packed.{tableFor, storeFor, Together};
-ghost use Rattle.route_record.specs.Answer.{recordPut, relaysPut, recordAt, withAddress, withRelays, storedStep, storedStore, removedStep, removedStore, wayTo, recordHeld, recordFound};
+ghost use Rattle.route_record.specs.Answer.{recordPut, relaysPut, recordOf, withAddress, withRelays, storedStep, storedStore, removedStep, removedStore, wayTo, recordHeld, recordFound};
 
 // What storing a route record answers: a refusal, or whether the source's record changed.
 pub enum RecordAnswer {
@@ -182,7 +182,7 @@ pub fn find_record(t: RecordTable, store: &[u16], destination: Nwk) -> RecordRow
 // Whether a destination has no record, or one that names other relays.
 fn differs(t: RecordTable, store: &[u16], destination: Nwk, relays: RelayList) -> bool
     requires { ⌜ Together t (now store) × (relays .count ≤ 32) ⌝ }
-    ensures { λ r. ⌜ r ≡ otherRelays (relaysOf relays) (recordAt destination t (now (store .entry))) ⌝ }
+    ensures { λ r. ⌜ r ≡ otherRelays (relaysOf relays) (recordOf destination t (now (store .entry))) ⌝ }
 {
     let row = find_record(t, store, destination);
     let entry = row.entry;

@@ -10,7 +10,7 @@ use Rattle.standard.specs.Query.{entryAt}
 use Rattle.standard.specs.Records.{RouteRecord, Way, wayBy}
 use Rattle.relay_store.specs.Packed.{recordsOf}
 use Rattle.relay_store.specs.Store.{relayList, agrees}
-use Rattle.route_record.specs.Answer.{listed, wayTo, recordAt, rowFor, recordHeld}
+use Rattle.route_record.specs.Answer.{listed, wayTo, recordOf, rowFor, recordHeld}
 use Rattle.routing.specs.declared.Routing.{Routing}
 use Rattle.routing.specs.declared.RouteToAnswer.{RouteToAnswer}
 use Rattle.routing.specs.declared.RouteToAnswer.the-variants as way
@@ -52,7 +52,7 @@ pub route-to-blank : (s : Routing) (d : Nwk) (limit : ℕ) (store : List ℕ) �
 unfolding routeTo wayTo
 route-to-blank s d limit store =
     by-test BlankWay (wellFormed s) _ _
-    (λ _. by-test BlankWay (agrees (s .«route_record_table») store) _ _ (λ _. way-blank s d limit (recordAt d (s .«route_record_table») store)) (λ _. refl))
+    (λ _. by-test BlankWay (agrees (s .«route_record_table») store) _ _ (λ _. way-blank s d limit (recordOf d (s .«route_record_table») store)) (λ _. refl))
     (λ _. refl)
 
 row-blank : (x : Option RouteRecord) → BlankAt (rowIn (rowFor x))

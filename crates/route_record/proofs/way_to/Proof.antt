@@ -2,7 +2,7 @@
 -- Assumes nothing.
 use mathlib.Core.Path.{_∙_}
 use Rattle.standard.specs.declared.RecordRoute.the-variants.{None}
-use Rattle.route_record.specs.Answer.{recordAt, recordFound, wayTo}
+use Rattle.route_record.specs.Answer.{recordOf, recordFound, wayTo}
 use Rattle.route_record.proofs.Looked.{missing-way, found-direct, found-source, found-none}
 use borrow.Author.Needs.{needs}
 use Rattle.route_record.proofs.way_to.Statement.{statement}
@@ -22,21 +22,21 @@ unfolding recordFound wayTo
 returns c =
     let find = c .before .before .before in
     let s = find .before .before in
-    missing-way (find .find-record .result) (c .enum-told2 .given .1) (recordAt (s .args .destination) (s .args .t) (s .args .store .now)) (find .find-record .ensures) (s .args .limit)
+    missing-way (find .find-record .result) (c .enum-told2 .given .1) (recordOf (s .args .destination) (s .args .t) (s .args .store .now)) (find .find-record .ensures) (s .args .limit)
 
 returns-2 : tie.Need-returns-2
 unfolding recordFound wayTo
 returns-2 c =
     let find = c .before .before .before .before in
     let s = find .before .before in
-    found-direct (find .find-record .result) _ (c .before .enum-told .given .1) (recordAt (s .args .destination) (s .args .t) (s .args .store .now)) (find .find-record .ensures) (s .args .limit) (c .if1 .taken)
+    found-direct (find .find-record .result) _ (c .before .enum-told .given .1) (recordOf (s .args .destination) (s .args .t) (s .args .store .now)) (find .find-record .ensures) (s .args .limit) (c .if1 .taken)
 
 returns-3 : tie.Need-returns-3
 unfolding recordFound wayTo
 returns-3 c =
     let find = c .before .before .before .before .before in
     let s = find .before .before in
-    found-source (find .find-record .result) _ (c .before .before .enum-told .given .1) (recordAt (s .args .destination) (s .args .t) (s .args .store .now)) (find .find-record .ensures) (s .args .limit) (c .before .if1 .left) (c .if2 .taken)
+    found-source (find .find-record .result) _ (c .before .before .enum-told .given .1) (recordOf (s .args .destination) (s .args .t) (s .args .store .now)) (find .find-record .ensures) (s .args .limit) (c .before .if1 .left) (c .if2 .taken)
 
 no-relays-requires : tie.Need-no-relays-requires
 no-relays-requires c κs = search needs
@@ -48,7 +48,7 @@ returns-4 c =
     let find = two .before .before .before .before .before in
     let s = find .before .before in
     (λ z. record { route = None; relays = c .no-relays .ensures z })
-    ∙ found-none (find .find-record .result) _ (two .before .before .enum-told .given .1) (recordAt (s .args .destination) (s .args .t) (s .args .store .now)) (find .find-record .ensures) (s .args .limit) (two .before .if1 .left) (two .if2 .left)
+    ∙ found-none (find .find-record .result) _ (two .before .before .enum-told .given .1) (recordOf (s .args .destination) (s .args .t) (s .args .store .now)) (find .find-record .ensures) (s .args .limit) (two .before .if1 .left) (two .if2 .left)
 
 pub way-to-spec : {M : Type 1} → statement M
 way-to-spec =
