@@ -20,7 +20,7 @@ blank-told e =
     (λ q. (ap (λ (x : RecordEntry). x .destination .0) q, ap (λ (x : RecordEntry). x .«relay_count») q))
     (both-told (eq-told (e .destination .0) 0) (eq-told (e .«relay_count») 0))
 
-few-told : (e : RecordEntry) → Tells (FewRelays e) (fewRelays e)
+pub few-told : (e : RecordEntry) → Tells (FewRelays e) (fewRelays e)
 few-told e = le-told (e .«relay_count») 32
 
 pub well-formed-told : (t : RecordTable) → Tells (WellFormed t) (wellFormed t)
