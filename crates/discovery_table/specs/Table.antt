@@ -1,13 +1,12 @@
 -- The route discovery table by value: 32 places, ordered by source and request id.
 -- Document 01, "Capacities and clock": "discoveries 32"; "Well formed".
 -- Assumes nothing.
-use Prim.Native.Nat.{ℕ, _+_, _-_, _<_, _≤_}
+use Prim.Native.Nat.{ℕ, _+_, _-_}
 use mathlib.Core.Bool.{Bool, _&&_}
 use mathlib.Core.List.{List, map}
 use mathlib.Core.Option.{Option, none, some}
-use mathlib.Core.Path.{_≡_}
 use lib.Dec.{eqb}
-use lib.ListN.{length, take, getD, set}
+use lib.ListN.{length, take, set}
 use Rattle.standard.specs.declared.DiscoveryEntry.{DiscoveryEntry}
 use Rattle.standard.specs.Discovery.{discoveryKey}
 use Rattle.standard.specs.Route.{nwk}
@@ -56,14 +55,6 @@ rowsOf t = take (t .count) (t .entries)
 -- the table that holds the discoveries xs
 unfoldable pub tableOf : List DiscoveryEntry → DiscoveryTable
 tableOf xs = record { keys = pad 32 0 (map discoveryKey xs); entries = pad 32 blankDiscovery xs; count = length xs }
-
--- each entry in use stands under its own source and request id
-abbrev pub OwnKeys : DiscoveryTable → Type 0
-OwnKeys t = (i : ℕ) → i < t .count → getD (t .keys) i 0 ≡ discoveryKey (getD (t .entries) i blankDiscovery)
-
--- the places that are not in use hold the blank entry
-abbrev pub BlankFrom : DiscoveryTable → Type 0
-BlankFrom t = (i : ℕ) → t .count ≤ i → getD (t .entries) i blankDiscovery ≡ blankDiscovery
 
 -- the steps on the arrays
 abbrev pub inserted : DiscoveryTable → ℕ → ℕ → DiscoveryEntry → DiscoveryTable

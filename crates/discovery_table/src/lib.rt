@@ -6,13 +6,11 @@ ghost use mathlib.Core.Path.{_≡_};
 ghost use mathlib.Core.List.{[]};
 ghost use Prim.Native.Nat.{_+_, _-_, _≤_, _<_};
 ghost use lib.Dec.{leb};
-ghost use lib.ListN.{length, take};
-ghost use Rattle.flat_map.specs.Seek.{placeOf};
+ghost use lib.ListN.{length};
 ghost use Rattle.standard.specs.Discovery.{pairKey, discoveryKey, live, names, awaits};
 ghost use Rattle.standard.specs.Ordered.{lookup, put, countWith, keep};
 ghost use Rattle.standard.specs.Query.{first, someFits, entryAt};
-ghost use Rattle.standard.specs.Tells.{Tells};
-ghost use Rattle.discovery_table.specs.Table.{blankDiscovery, isBlank, OwnKeys, BlankFrom, WellFormed, wellFormed, rowsOf, tableOf, inserted, replaced, removed, looked, deadlineOf};
+ghost use Rattle.discovery_table.specs.Table.{blankDiscovery, isBlank, WellFormed, wellFormed, rowsOf, tableOf, inserted, removed, looked, deadlineOf};
 
 pub struct DiscoveryTable {
     pub keys: [u64; 32],
@@ -66,40 +64,6 @@ fn is_blank(e: DiscoveryEntry) -> bool
                         & ((e.expiration_time == 0) & (e.destination_address.0 == 0))))))
 }
 
-// Whether each entry in use stands under its own source and request id.
-fn own_keys(t: DiscoveryTable) -> bool
-    requires { ⌜ t .count ≤ 32 ⌝ }
-    ensures { λ r. ⌜ Tells (OwnKeys t) r ⌝ }
-{
-    let n = t.count;
-    let mut i: usize = 0;
-    while i < n {
-        let k = t.keys[i];
-        let e = t.entries[i];
-        let source = e.source_address;
-        if k != pair_key(source, e.route_request_id) {
-            return false;
-        }
-        i += 1;
-    }
-    true
-}
-
-// Whether the places that are not in use hold the blank entry.
-fn blank_from(t: DiscoveryTable) -> bool
-    ensures { λ r. ⌜ Tells (BlankFrom t) r ⌝ }
-{
-    let mut i = t.count;
-    while i < 32 {
-        let e = t.entries[i];
-        if !is_blank(e) {
-            return false;
-        }
-        i += 1;
-    }
-    true
-}
-
 // An entry put in at a place, both arrays shifted right.
 fn insert_at(t: DiscoveryTable, i: usize, key: u64, e: DiscoveryEntry) -> DiscoveryTable
     requires { ⌜ t .count < 32 ⌝ }
@@ -119,16 +83,6 @@ fn insert_at(t: DiscoveryTable, i: usize, key: u64, e: DiscoveryEntry) -> Discov
         j += 1;
     }
     u.count = t.count + 1;
-    u
-}
-
-// The entry at a place replaced.
-fn set_at(t: DiscoveryTable, i: usize, e: DiscoveryEntry) -> DiscoveryTable
-    requires { ⌜ i < 32 ⌝ }
-    ensures { λ r. ⌜ r ≡ replaced t i e ⌝ }
-{
-    let mut u = t;
-    u.entries[i] = e;
     u
 }
 
@@ -175,13 +129,18 @@ pub fn well_formed(t: DiscoveryTable) -> bool
     if !flat_map::rising(&t.keys, n) {
         return false;
     }
-    if !own_keys(t) {
-        return false;
+    let mut kept = true;
+    let mut i: usize = 0;
+    while i < 32 {
+        let k = t.keys[i];
+        let e = t.entries[i];
+        let source = e.source_address;
+        let key = pair_key(source, e.route_request_id);
+        let blank = is_blank(e);
+        kept = kept & ((k == key) & ((i < n) | blank));
+        i += 1;
     }
-    if !flat_map::zero_from(&t.keys, n) {
-        return false;
-    }
-    blank_from(t)
+    kept
 }
 
 // How many discoveries there are.
@@ -204,21 +163,13 @@ pub fn entry_at(t: DiscoveryTable, i: usize) -> DiscoveryLookup
     DiscoveryLookup::Found(e)
 }
 
-// Where a pair stands among the keys, or where it would stand.
-fn place_of(t: DiscoveryTable, source: Nwk, id: u8) -> Place
-    requires { ⌜ WellFormed t ⌝ }
-    ensures { λ r. ⌜ r ≡ placeOf (take (t .count) (t .keys)) (pairKey source id) ⌝ }
-{
-    let key = pair_key(source, id);
-    flat_map::index_of(&t.keys, t.count, key)
-}
-
 // The discovery of a source under a request id.
 pub fn find(t: DiscoveryTable, source: Nwk, id: u8) -> DiscoveryLookup
     requires { ⌜ WellFormed t ⌝ }
     ensures { λ r. ⌜ r ≡ looked (lookup discoveryKey (pairKey source id) (rowsOf t)) ⌝ }
 {
-    let place = place_of(t, source, id);
+    let key = pair_key(source, id);
+    let place = flat_map::index_of(&t.keys, t.count, key);
     match place {
         Place::Found(i) => {
             let e = t.entries[i];
@@ -233,7 +184,8 @@ pub fn has_room(t: DiscoveryTable, source: Nwk, id: u8) -> bool
     requires { ⌜ WellFormed t ⌝ }
     ensures { λ r. ⌜ r ≡ leb (countWith discoveryKey (pairKey source id) (rowsOf t)) 32 ⌝ }
 {
-    let place = place_of(t, source, id);
+    let key = pair_key(source, id);
+    let place = flat_map::index_of(&t.keys, t.count, key);
     match place {
         Place::Found(_) => true,
         Place::Missing(_) => t.count < 32,
@@ -247,13 +199,15 @@ pub fn put(t: DiscoveryTable, e: DiscoveryEntry) -> DiscoveryTable
 {
     let source = e.source_address;
     let id = e.route_request_id;
-    let place = place_of(t, source, id);
+    let key = pair_key(source, id);
+    let place = flat_map::index_of(&t.keys, t.count, key);
     match place {
-        Place::Found(i) => set_at(t, i, e),
-        Place::Missing(i) => {
-            let key = pair_key(source, id);
-            insert_at(t, i, key, e)
+        Place::Found(i) => {
+            let mut u = t;
+            u.entries[i] = e;
+            u
         }
+        Place::Missing(i) => insert_at(t, i, key, e),
     }
 }
 

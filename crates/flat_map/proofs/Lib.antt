@@ -15,3 +15,4 @@ pub mod Mapped
 pub mod Every
 pub mod Lists
 pub mod Filter
+pub mod Kept

@@ -3,7 +3,7 @@ ghost use Prim.Native.Nat.{_≤_};
 ghost use lib.ListN.{length, take};
 ghost use mathlib.Core.Path.{_≡_};
 ghost use Rattle.flat_map.specs.Seek.{placeOf};
-ghost use Rattle.flat_map.specs.Table.{Rising, ZeroFrom};
+ghost use Rattle.flat_map.specs.Table.{Rising};
 ghost use Rattle.standard.specs.Tells.{Tells};
 
 // Where a key stands, or where it would stand.
@@ -42,20 +42,6 @@ pub fn rising(keys: &[u64], count: usize) -> bool
     let mut i: usize = 0;
     while i + 1 < count {
         if keys[i + 1] <= keys[i] {
-            return false;
-        }
-        i += 1;
-    }
-    true
-}
-
-// Whether the keys from `from` on are 0.
-pub fn zero_from(keys: &[u64], from: usize) -> bool
-    ensures { λ r. ⌜ Tells (ZeroFrom (now (keys .entry)) from) r ⌝ }
-{
-    let mut i = from;
-    while i < keys.len() {
-        if keys[i] != 0 {
             return false;
         }
         i += 1;

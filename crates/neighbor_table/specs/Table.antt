@@ -1,12 +1,12 @@
 -- The neighbour table by value: 64 places, ordered by extended address.
 -- Document 01, "Capacities and clock": "neighbours 64"; "Well formed".
 -- Assumes nothing.
-use Prim.Native.Nat.{ℕ, _+_, _-_, _<_, _≤_}
+use Prim.Native.Nat.{ℕ, _+_, _-_}
 use mathlib.Core.Bool.{Bool, true, false, _&&_}
 use mathlib.Core.List.{List, map}
 use mathlib.Core.Option.{Option, none, some}
 use mathlib.Core.Path.{_≡_}
-use lib.ListN.{length, take, getD, set}
+use lib.ListN.{length, take, set}
 use Rattle.flat_map.specs.Rows.{pad}
 use Rattle.flat_map.specs.Shift.{shiftIn, shiftOut}
 use Rattle.flat_map.specs.Table.{Formed, Fit, formed, every}
@@ -44,14 +44,6 @@ wellFormed t = formed64 t && every isSound (rowsOf t)
 pub record FitRows (xs : List NeighborEntry) : Type 0 where
   pub fit : Fit 64 neighborKey blankNeighbor xs
   pub sound : every isSound xs ≡ true
-
--- each entry in use stands under its own address
-abbrev pub OwnKeys : NeighborTable → Type 0
-OwnKeys t = (i : ℕ) → i < t .count → getD (t .keys) i 0 ≡ neighborKey (getD (t .entries) i blankNeighbor)
-
--- the places that are not in use hold the blank entry
-abbrev pub BlankFrom : NeighborTable → Type 0
-BlankFrom t = (i : ℕ) → t .count ≤ i → getD (t .entries) i blankNeighbor ≡ blankNeighbor
 
 -- the steps on the arrays
 abbrev pub inserted : NeighborTable → ℕ → ℕ → NeighborEntry → NeighborTable

@@ -3,19 +3,17 @@ use flat_map::Place;
 use ring_buffer::RingBuffer;
 use types::Eui64;
 use types::Nwk;
+ghost use mathlib.Core.Bool.{cond};
 ghost use mathlib.Core.Path.{_≡_};
 ghost use mathlib.Core.List.{[]};
 ghost use mathlib.Core.Option.{none, some};
 ghost use Prim.Native.Nat.{_+_, _-_, _≤_, _<_};
 ghost use lib.Dec.{leb};
-ghost use lib.ListN.{take, length};
-ghost use Rattle.flat_map.specs.Seek.{placeOf};
-ghost use Rattle.flat_map.specs.Table.{every};
+ghost use lib.ListN.{length};
 ghost use Rattle.standard.specs.Ordered.{lookup, put, remove, countWith};
 ghost use Rattle.standard.specs.Query.{entryAt};
-ghost use Rattle.standard.specs.Tells.{Tells};
 ghost use Rattle.neighbor_table.specs.Entry.{isRouter, isEndDevice, isChild, qualityOf, costOf, deviceTypeNumber, relationshipNumber, neighborKey, blankNeighbor, quiet, isBlank, isSound};
-ghost use Rattle.neighbor_table.specs.Table.{OwnKeys, BlankFrom, Formed64, formed64, WellFormed, wellFormed, rowsOf, tableOf, inserted, replaced, removed, looked};
+ghost use Rattle.neighbor_table.specs.Table.{Formed64, formed64, WellFormed, wellFormed, rowsOf, tableOf, inserted, removed, looked};
 
 // What a device is to its network, in the specification's number order.
 pub enum NwkDeviceType {
@@ -263,54 +261,14 @@ fn is_sound(e: NeighborEntry) -> bool
     (e.outgoing_cost <= 7) & lqas.well_formed()
 }
 
-// Whether each entry in use stands under its own address.
-fn own_keys(t: NeighborTable) -> bool
-    requires { ⌜ t .count ≤ 64 ⌝ }
-    ensures { λ r. ⌜ Tells (OwnKeys t) r ⌝ }
+// Whether a place holds what it may: a sound entry where it is in use, else the blank one.
+fn place_holds(used: bool, e: NeighborEntry) -> bool
+    ensures { λ r. ⌜ r ≡ cond used (isSound e) (isBlank e) ⌝ }
 {
-    let n = t.count;
-    let mut i: usize = 0;
-    while i < n {
-        let k = t.keys[i];
-        let e = t.entries[i];
-        if k != e.extended_address.0 {
-            return false;
-        }
-        i += 1;
+    if used {
+        return is_sound(e);
     }
-    true
-}
-
-// Whether the places that are not in use hold the blank entry.
-fn blank_from(t: NeighborTable) -> bool
-    ensures { λ r. ⌜ Tells (BlankFrom t) r ⌝ }
-{
-    let mut i = t.count;
-    while i < 64 {
-        let e = t.entries[i];
-        if !is_blank(e) {
-            return false;
-        }
-        i += 1;
-    }
-    true
-}
-
-// Whether every entry in use is sound.
-fn rows_sound(t: NeighborTable) -> bool
-    requires { ⌜ Formed64 t ⌝ }
-    ensures { λ r. ⌜ r ≡ every isSound (rowsOf t) ⌝ }
-{
-    let n = t.count;
-    let mut i: usize = 0;
-    while i < n {
-        let e = t.entries[i];
-        if !is_sound(e) {
-            return false;
-        }
-        i += 1;
-    }
-    true
+    is_blank(e)
 }
 
 // Whether the keys, the entries and the count make a table, whatever the entries say.
@@ -324,13 +282,16 @@ pub fn formed(t: NeighborTable) -> bool
     if !flat_map::rising(&t.keys, n) {
         return false;
     }
-    if !own_keys(t) {
-        return false;
+    let mut kept = true;
+    let mut i: usize = 0;
+    while i < 64 {
+        let k = t.keys[i];
+        let e = t.entries[i];
+        let blank = is_blank(e);
+        kept = kept & ((k == e.extended_address.0) & ((i < n) | blank));
+        i += 1;
     }
-    if !flat_map::zero_from(&t.keys, n) {
-        return false;
-    }
-    blank_from(t)
+    kept
 }
 
 // An entry put in at a place, both arrays shifted right.
@@ -352,16 +313,6 @@ fn insert_at(t: NeighborTable, i: usize, key: u64, e: NeighborEntry) -> Neighbor
         j += 1;
     }
     u.count = t.count + 1;
-    u
-}
-
-// The entry at a place replaced.
-fn set_at(t: NeighborTable, i: usize, e: NeighborEntry) -> NeighborTable
-    requires { ⌜ i < 64 ⌝ }
-    ensures { λ r. ⌜ r ≡ replaced t i e ⌝ }
-{
-    let mut u = t;
-    u.entries[i] = e;
     u
 }
 
@@ -419,18 +370,23 @@ pub fn new() -> NeighborTable
 pub fn well_formed(t: NeighborTable) -> bool
     ensures { λ r. ⌜ r ≡ wellFormed t ⌝ }
 {
-    if !formed(t) {
+    let n = t.count;
+    if 64 < n {
         return false;
     }
-    rows_sound(t)
-}
-
-// Where an address stands among the keys, or where it would stand.
-fn place_of(t: NeighborTable, eui64: Eui64) -> Place
-    requires { ⌜ Formed64 t ⌝ }
-    ensures { λ r. ⌜ r ≡ placeOf (take (t .count) (t .keys)) (eui64 .0) ⌝ }
-{
-    flat_map::index_of(&t.keys, t.count, eui64.0)
+    if !flat_map::rising(&t.keys, n) {
+        return false;
+    }
+    let mut kept = true;
+    let mut i: usize = 0;
+    while i < 64 {
+        let k = t.keys[i];
+        let e = t.entries[i];
+        let holds = place_holds(i < n, e);
+        kept = kept & ((k == e.extended_address.0) & holds);
+        i += 1;
+    }
+    kept
 }
 
 // The neighbour with an extended address.
@@ -438,7 +394,7 @@ pub fn find(t: NeighborTable, eui64: Eui64) -> NeighborLookup
     requires { ⌜ Formed64 t ⌝ }
     ensures { λ r. ⌜ r ≡ looked (lookup neighborKey (eui64 .0) (rowsOf t)) ⌝ }
 {
-    let place = place_of(t, eui64);
+    let place = flat_map::index_of(&t.keys, t.count, eui64.0);
     match place {
         Place::Found(i) => {
             let e = t.entries[i];
@@ -453,7 +409,7 @@ pub fn has_room(t: NeighborTable, eui64: Eui64) -> bool
     requires { ⌜ Formed64 t ⌝ }
     ensures { λ r. ⌜ r ≡ leb (countWith neighborKey (eui64 .0) (rowsOf t)) 64 ⌝ }
 {
-    let place = place_of(t, eui64);
+    let place = flat_map::index_of(&t.keys, t.count, eui64.0);
     match place {
         Place::Found(_) => true,
         Place::Missing(_) => t.count < 64,
@@ -466,10 +422,15 @@ pub fn put(t: NeighborTable, e: NeighborEntry) -> NeighborTable
     ensures { λ r. ⌜ r ≡ tableOf (put neighborKey e (rowsOf t)) ⌝ }
 {
     let eui64 = e.extended_address;
-    let place = place_of(t, eui64);
+    let key = eui64.0;
+    let place = flat_map::index_of(&t.keys, t.count, key);
     match place {
-        Place::Found(i) => set_at(t, i, e),
-        Place::Missing(i) => insert_at(t, i, eui64.0, e),
+        Place::Found(i) => {
+            let mut u = t;
+            u.entries[i] = e;
+            u
+        }
+        Place::Missing(i) => insert_at(t, i, key, e),
     }
 }
 
@@ -478,7 +439,7 @@ pub fn remove(t: NeighborTable, eui64: Eui64) -> NeighborTable
     requires { ⌜ Formed64 t ⌝ }
     ensures { λ r. ⌜ r ≡ tableOf (remove neighborKey (eui64 .0) (rowsOf t)) ⌝ }
 {
-    let place = place_of(t, eui64);
+    let place = flat_map::index_of(&t.keys, t.count, eui64.0);
     match place {
         Place::Found(i) => remove_at(t, i),
         Place::Missing(_) => t,

@@ -20,7 +20,7 @@ blank-told e =
     (λ q. (ap (λ (x : RecordEntry). x .destination .0) q, ap (λ (x : RecordEntry). x .«relay_count») q))
     (tells-both (tells-eq (e .destination .0) 0) (tells-eq (e .«relay_count») 0))
 
-few-told : (e : RecordEntry) → Tells (FewRelays e) (fewRelays e)
+pub few-told : (e : RecordEntry) → Tells (FewRelays e) (fewRelays e)
 few-told e = tells-le (e .«relay_count») 32
 
 pub well-formed-told : (t : RecordTable) → Tells (WellFormed t) (wellFormed t)

@@ -1,13 +1,12 @@
 -- The route record table by value: 64 places, ordered by destination.
 -- Document 01, "Capacities and clock": "route records 64, each of at most 32 relays"; "Well formed".
 -- Assumes nothing.
-use Prim.Native.Nat.{ℕ, _+_, _-_, _<_, _≤_}
+use Prim.Native.Nat.{ℕ, _+_, _-_}
 use mathlib.Core.Bool.{Bool, _&&_}
 use mathlib.Core.List.{List, map}
 use mathlib.Core.Option.{Option, none, some}
-use mathlib.Core.Path.{_≡_}
 use lib.Dec.{eqb}
-use lib.ListN.{length, take, getD, set}
+use lib.ListN.{length, take, set}
 use Rattle.standard.specs.declared.RecordEntry.{RecordEntry}
 use Rattle.standard.specs.Record.{recordKey, FewRelays, fewRelays}
 use Rattle.standard.specs.Route.{nwk}
@@ -40,14 +39,6 @@ wellFormed t = formed 64 recordKey isBlank (t .keys) (t .entries) (t .count) && 
 -- the table that holds the records xs
 unfoldable pub tableOf : List RecordEntry → RecordTable
 tableOf xs = record { keys = pad 64 0 (map recordKey xs); entries = pad 64 blankRecord xs; count = length xs }
-
--- each entry in use stands under its own destination
-abbrev pub OwnKeys : RecordTable → Type 0
-OwnKeys t = (i : ℕ) → i < t .count → getD (t .keys) i 0 ≡ recordKey (getD (t .entries) i blankRecord)
-
--- the places that are not in use hold the blank entry
-abbrev pub BlankFrom : RecordTable → Type 0
-BlankFrom t = (i : ℕ) → t .count ≤ i → getD (t .entries) i blankRecord ≡ blankRecord
 
 -- the steps on the arrays
 abbrev pub inserted : RecordTable → ℕ → ℕ → RecordEntry → RecordTable

@@ -3,18 +3,17 @@
 use flat_map::Place;
 use standard::RecordEntry;
 use types::Nwk;
+ghost use mathlib.Core.Bool.{cond};
 ghost use mathlib.Core.Path.{_≡_};
 ghost use mathlib.Core.List.{[]};
 ghost use Prim.Native.Nat.{_+_, _-_, _≤_, _<_};
 ghost use lib.Dec.{leb};
 ghost use lib.ListN.{length, take};
 ghost use Rattle.flat_map.specs.Seek.{placeOf};
-ghost use Rattle.flat_map.specs.Table.{Each};
 ghost use Rattle.standard.specs.Ordered.{lookup, put, remove, countWith};
 ghost use Rattle.standard.specs.Query.{entryAt};
-ghost use Rattle.standard.specs.Record.{recordKey, FewRelays};
-ghost use Rattle.record_table.specs.Table.{blankRecord, isBlank, OwnKeys, BlankFrom, WellFormed, wellFormed, rowsOf, tableOf, inserted, replaced, removed, looked};
-ghost use Rattle.standard.specs.Tells.{Tells};
+ghost use Rattle.standard.specs.Record.{recordKey, fewRelays};
+ghost use Rattle.record_table.specs.Table.{blankRecord, isBlank, WellFormed, wellFormed, rowsOf, tableOf, inserted, removed, looked};
 
 pub struct RecordTable {
     pub keys: [u64; 64],
@@ -45,54 +44,14 @@ fn is_blank(e: RecordEntry) -> bool
     (e.destination.0 == 0) & (e.relay_count == 0)
 }
 
-// Whether each entry in use stands under its own destination.
-fn own_keys(t: RecordTable) -> bool
-    requires { ⌜ t .count ≤ 64 ⌝ }
-    ensures { λ r. ⌜ Tells (OwnKeys t) r ⌝ }
+// Whether a place holds what it may: an entry with at most 32 relays where it is in use, else the blank one.
+fn place_holds(used: bool, e: RecordEntry) -> bool
+    ensures { λ r. ⌜ r ≡ cond used (fewRelays e) (isBlank e) ⌝ }
 {
-    let n = t.count;
-    let mut i: usize = 0;
-    while i < n {
-        let k = t.keys[i];
-        let e = t.entries[i];
-        if k != e.destination.0 as u64 {
-            return false;
-        }
-        i += 1;
+    if used {
+        return e.relay_count <= 32;
     }
-    true
-}
-
-// Whether the places that are not in use hold the blank entry.
-fn blank_from(t: RecordTable) -> bool
-    ensures { λ r. ⌜ Tells (BlankFrom t) r ⌝ }
-{
-    let mut i = t.count;
-    while i < 64 {
-        let e = t.entries[i];
-        if !is_blank(e) {
-            return false;
-        }
-        i += 1;
-    }
-    true
-}
-
-// Whether each record has at most 32 relays.
-fn few_relays(t: RecordTable) -> bool
-    requires { ⌜ t .count ≤ 64 ⌝ }
-    ensures { λ r. ⌜ Tells (Each FewRelays (rowsOf t)) r ⌝ }
-{
-    let n = t.count;
-    let mut i: usize = 0;
-    while i < n {
-        let e = t.entries[i];
-        if 32 < e.relay_count {
-            return false;
-        }
-        i += 1;
-    }
-    true
+    is_blank(e)
 }
 
 // An entry put in at a place, both arrays shifted right.
@@ -114,16 +73,6 @@ fn insert_at(t: RecordTable, i: usize, key: u64, e: RecordEntry) -> RecordTable
         j += 1;
     }
     u.count = t.count + 1;
-    u
-}
-
-// The entry at a place replaced.
-fn set_at(t: RecordTable, i: usize, e: RecordEntry) -> RecordTable
-    requires { ⌜ i < 64 ⌝ }
-    ensures { λ r. ⌜ r ≡ replaced t i e ⌝ }
-{
-    let mut u = t;
-    u.entries[i] = e;
     u
 }
 
@@ -170,16 +119,16 @@ pub fn well_formed(t: RecordTable) -> bool
     if !flat_map::rising(&t.keys, n) {
         return false;
     }
-    if !own_keys(t) {
-        return false;
+    let mut kept = true;
+    let mut i: usize = 0;
+    while i < 64 {
+        let k = t.keys[i];
+        let e = t.entries[i];
+        let holds = place_holds(i < n, e);
+        kept = kept & ((k == e.destination.0 as u64) & holds);
+        i += 1;
     }
-    if !flat_map::zero_from(&t.keys, n) {
-        return false;
-    }
-    if !blank_from(t) {
-        return false;
-    }
-    few_relays(t)
+    kept
 }
 
 // How many records there are.
@@ -215,7 +164,7 @@ pub fn find(t: RecordTable, destination: Nwk) -> RecordLookup
     requires { ⌜ WellFormed t ⌝ }
     ensures { λ r. ⌜ r ≡ looked (lookup recordKey (destination .0) (rowsOf t)) ⌝ }
 {
-    let place = place_of(t, destination);
+    let place = flat_map::index_of(&t.keys, t.count, destination.0 as u64);
     match place {
         Place::Found(i) => {
             let e = t.entries[i];
@@ -230,7 +179,7 @@ pub fn has_room(t: RecordTable, destination: Nwk) -> bool
     requires { ⌜ WellFormed t ⌝ }
     ensures { λ r. ⌜ r ≡ leb (countWith recordKey (destination .0) (rowsOf t)) 64 ⌝ }
 {
-    let place = place_of(t, destination);
+    let place = flat_map::index_of(&t.keys, t.count, destination.0 as u64);
     match place {
         Place::Found(_) => true,
         Place::Missing(_) => t.count < 64,
@@ -243,10 +192,15 @@ pub fn put(t: RecordTable, e: RecordEntry) -> RecordTable
     ensures { λ r. ⌜ r ≡ tableOf (put recordKey e (rowsOf t)) ⌝ }
 {
     let destination = e.destination;
-    let place = place_of(t, destination);
+    let key = destination.0 as u64;
+    let place = flat_map::index_of(&t.keys, t.count, key);
     match place {
-        Place::Found(i) => set_at(t, i, e),
-        Place::Missing(i) => insert_at(t, i, destination.0 as u64, e),
+        Place::Found(i) => {
+            let mut u = t;
+            u.entries[i] = e;
+            u
+        }
+        Place::Missing(i) => insert_at(t, i, key, e),
     }
 }
 
@@ -255,7 +209,7 @@ pub fn remove(t: RecordTable, destination: Nwk) -> RecordTable
     requires { ⌜ WellFormed t ⌝ }
     ensures { λ r. ⌜ r ≡ tableOf (remove recordKey (destination .0) (rowsOf t)) ⌝ }
 {
-    let place = place_of(t, destination);
+    let place = flat_map::index_of(&t.keys, t.count, destination.0 as u64);
     match place {
         Place::Found(i) => remove_at(t, i),
         Place::Missing(_) => t,

@@ -1,13 +1,12 @@
 -- The route table by value: 64 places, ordered by destination.
 -- Document 01, "Capacities and clock": "Routes 64"; "Well formed".
 -- Assumes nothing.
-use Prim.Native.Nat.{ℕ, _+_, _-_, _<_, _≤_}
+use Prim.Native.Nat.{ℕ, _+_, _-_}
 use mathlib.Core.Bool.{Bool, true, false, not, _&&_}
 use mathlib.Core.List.{List, map}
 use mathlib.Core.Option.{Option, none, some}
-use mathlib.Core.Path.{_≡_}
 use lib.Dec.{eqb}
-use lib.ListN.{length, take, getD, set}
+use lib.ListN.{length, take, set}
 use Rattle.standard.specs.declared.RouteEntry.{RouteEntry}
 use Rattle.standard.specs.declared.Status.the-variants.{Active}
 use Rattle.standard.specs.Route.{nwk, isActive, routeKey}
@@ -60,14 +59,6 @@ rowsOf t = take (t .count) (t .entries)
 -- the table that holds the routes xs
 unfoldable pub tableOf : List RouteEntry → RouteTable
 tableOf xs = record { keys = pad 64 0 (map routeKey xs); entries = pad 64 blankRoute xs; count = length xs }
-
--- each entry in use stands under its own destination
-abbrev pub OwnKeys : RouteTable → Type 0
-OwnKeys t = (i : ℕ) → i < t .count → getD (t .keys) i 0 ≡ routeKey (getD (t .entries) i blankRoute)
-
--- the places that are not in use hold the blank entry
-abbrev pub BlankFrom : RouteTable → Type 0
-BlankFrom t = (i : ℕ) → t .count ≤ i → getD (t .entries) i blankRoute ≡ blankRoute
 
 -- the steps on the arrays
 abbrev pub inserted : RouteTable → ℕ → ℕ → RouteEntry → RouteTable

@@ -7,13 +7,11 @@ ghost use mathlib.Core.Path.{_≡_};
 ghost use mathlib.Core.List.{[], map};
 ghost use Prim.Native.Nat.{_+_, _-_, _≤_, _<_};
 ghost use lib.Dec.{leb};
-ghost use lib.ListN.{length, take};
-ghost use Rattle.flat_map.specs.Seek.{placeOf};
+ghost use lib.ListN.{length};
 ghost use Rattle.standard.specs.Ordered.{lookup, put, remove, countWith};
 ghost use Rattle.standard.specs.Query.{entryAt};
 ghost use Rattle.standard.specs.Route.{routeKey, decayed, unlinked};
-ghost use Rattle.route_table.specs.Table.{blankRoute, isBlank, OwnKeys, BlankFrom, WellFormed, wellFormed, rowsOf, tableOf, inserted, replaced, removed, looked};
-ghost use Rattle.standard.specs.Tells.{Tells};
+ghost use Rattle.route_table.specs.Table.{blankRoute, isBlank, WellFormed, wellFormed, rowsOf, tableOf, inserted, removed, looked};
 
 pub struct RouteTable {
     pub keys: [u64; 64],
@@ -61,39 +59,6 @@ fn is_blank(e: RouteEntry) -> bool
                                     & (!e.expired & route_entry::is_active(s)))))))))
 }
 
-// Whether each entry in use stands under its own destination.
-fn own_keys(t: RouteTable) -> bool
-    requires { ⌜ t .count ≤ 64 ⌝ }
-    ensures { λ r. ⌜ Tells (OwnKeys t) r ⌝ }
-{
-    let n = t.count;
-    let mut i: usize = 0;
-    while i < n {
-        let k = t.keys[i];
-        let e = t.entries[i];
-        if k != e.destination.0 as u64 {
-            return false;
-        }
-        i += 1;
-    }
-    true
-}
-
-// Whether the places that are not in use hold the blank entry.
-fn blank_from(t: RouteTable) -> bool
-    ensures { λ r. ⌜ Tells (BlankFrom t) r ⌝ }
-{
-    let mut i = t.count;
-    while i < 64 {
-        let e = t.entries[i];
-        if !is_blank(e) {
-            return false;
-        }
-        i += 1;
-    }
-    true
-}
-
 // An entry put in at a place, both arrays shifted right.
 fn insert_at(t: RouteTable, i: usize, key: u64, e: RouteEntry) -> RouteTable
     requires { ⌜ t .count < 64 ⌝ }
@@ -113,16 +78,6 @@ fn insert_at(t: RouteTable, i: usize, key: u64, e: RouteEntry) -> RouteTable
         j += 1;
     }
     u.count = t.count + 1;
-    u
-}
-
-// The entry at a place replaced.
-fn set_at(t: RouteTable, i: usize, e: RouteEntry) -> RouteTable
-    requires { ⌜ i < 64 ⌝ }
-    ensures { λ r. ⌜ r ≡ replaced t i e ⌝ }
-{
-    let mut u = t;
-    u.entries[i] = e;
     u
 }
 
@@ -169,13 +124,16 @@ pub fn well_formed(t: RouteTable) -> bool
     if !flat_map::rising(&t.keys, n) {
         return false;
     }
-    if !own_keys(t) {
-        return false;
+    let mut kept = true;
+    let mut i: usize = 0;
+    while i < 64 {
+        let k = t.keys[i];
+        let e = t.entries[i];
+        let blank = is_blank(e);
+        kept = kept & ((k == e.destination.0 as u64) & ((i < n) | blank));
+        i += 1;
     }
-    if !flat_map::zero_from(&t.keys, n) {
-        return false;
-    }
-    blank_from(t)
+    kept
 }
 
 // How many routes there are.
@@ -198,20 +156,12 @@ pub fn entry_at(t: RouteTable, i: usize) -> RouteLookup
     RouteLookup::Found(e)
 }
 
-// Where a destination stands among the keys, or where it would stand.
-fn place_of(t: RouteTable, destination: Nwk) -> Place
-    requires { ⌜ WellFormed t ⌝ }
-    ensures { λ r. ⌜ r ≡ placeOf (take (t .count) (t .keys)) (destination .0) ⌝ }
-{
-    flat_map::index_of(&t.keys, t.count, destination.0 as u64)
-}
-
 // The route to a destination.
 pub fn find(t: RouteTable, destination: Nwk) -> RouteLookup
     requires { ⌜ WellFormed t ⌝ }
     ensures { λ r. ⌜ r ≡ looked (lookup routeKey (destination .0) (rowsOf t)) ⌝ }
 {
-    let place = place_of(t, destination);
+    let place = flat_map::index_of(&t.keys, t.count, destination.0 as u64);
     match place {
         Place::Found(i) => {
             let e = t.entries[i];
@@ -226,7 +176,7 @@ pub fn has_room(t: RouteTable, destination: Nwk) -> bool
     requires { ⌜ WellFormed t ⌝ }
     ensures { λ r. ⌜ r ≡ leb (countWith routeKey (destination .0) (rowsOf t)) 64 ⌝ }
 {
-    let place = place_of(t, destination);
+    let place = flat_map::index_of(&t.keys, t.count, destination.0 as u64);
     match place {
         Place::Found(_) => true,
         Place::Missing(_) => t.count < 64,
@@ -239,10 +189,15 @@ pub fn put(t: RouteTable, e: RouteEntry) -> RouteTable
     ensures { λ r. ⌜ r ≡ tableOf (put routeKey e (rowsOf t)) ⌝ }
 {
     let destination = e.destination;
-    let place = place_of(t, destination);
+    let key = destination.0 as u64;
+    let place = flat_map::index_of(&t.keys, t.count, key);
     match place {
-        Place::Found(i) => set_at(t, i, e),
-        Place::Missing(i) => insert_at(t, i, destination.0 as u64, e),
+        Place::Found(i) => {
+            let mut u = t;
+            u.entries[i] = e;
+            u
+        }
+        Place::Missing(i) => insert_at(t, i, key, e),
     }
 }
 
@@ -251,7 +206,7 @@ pub fn remove(t: RouteTable, destination: Nwk) -> RouteTable
     requires { ⌜ WellFormed t ⌝ }
     ensures { λ r. ⌜ r ≡ tableOf (remove routeKey (destination .0) (rowsOf t)) ⌝ }
 {
-    let place = place_of(t, destination);
+    let place = flat_map::index_of(&t.keys, t.count, destination.0 as u64);
     match place {
         Place::Found(i) => remove_at(t, i),
         Place::Missing(_) => t,

@@ -1,12 +1,12 @@
 -- The waiting table by value: 64 places, ordered by network address.
 -- Document 01, "Capacities and clock": "waiting samples 64"; "Well formed".
 -- Assumes nothing.
-use Prim.Native.Nat.{ℕ, _+_, _-_, _<_, _≤_}
+use Prim.Native.Nat.{ℕ, _+_, _-_}
 use mathlib.Core.Bool.{Bool, true, false, _&&_}
 use mathlib.Core.List.{List, map}
 use mathlib.Core.Option.{Option, none, some}
 use mathlib.Core.Path.{_≡_}
-use lib.ListN.{length, take, getD, set}
+use lib.ListN.{length, take, set}
 use Rattle.flat_map.specs.Rows.{pad}
 use Rattle.flat_map.specs.Shift.{shiftIn, shiftOut}
 use Rattle.flat_map.specs.Table.{Formed, Fit, formed, every}
@@ -44,14 +44,6 @@ wellFormed t = formed64 t && every isSound (rowsOf t)
 pub record FitRows (xs : List WaitingEntry) : Type 0 where
   pub fit : Fit 64 waitingKey blankWaiting xs
   pub sound : every isSound xs ≡ true
-
--- each entry in use stands under its own address
-abbrev pub OwnKeys : WaitingTable → Type 0
-OwnKeys t = (i : ℕ) → i < t .count → getD (t .keys) i 0 ≡ waitingKey (getD (t .entries) i blankWaiting)
-
--- the places that are not in use hold the blank entry
-abbrev pub BlankFrom : WaitingTable → Type 0
-BlankFrom t = (i : ℕ) → t .count ≤ i → getD (t .entries) i blankWaiting ≡ blankWaiting
 
 -- the steps on the arrays
 abbrev pub inserted : WaitingTable → ℕ → ℕ → WaitingEntry → WaitingTable

@@ -3,18 +3,16 @@
 use flat_map::Place;
 use ring_buffer::RingBuffer;
 use types::Nwk;
+ghost use mathlib.Core.Bool.{cond};
 ghost use mathlib.Core.Path.{_≡_};
 ghost use mathlib.Core.List.{[]};
 ghost use mathlib.Core.Option.{none, some};
 ghost use Prim.Native.Nat.{_+_, _-_, _≤_, _<_};
 ghost use lib.Dec.{leb};
-ghost use lib.ListN.{take, length};
-ghost use Rattle.flat_map.specs.Seek.{placeOf};
-ghost use Rattle.flat_map.specs.Table.{every};
+ghost use lib.ListN.{length};
 ghost use Rattle.standard.specs.Ordered.{lookup, put, remove, popFirst, countWith};
-ghost use Rattle.standard.specs.Tells.{Tells};
 ghost use Rattle.waiting_table.specs.Entry.{waitingKey, blankWaiting, isBlank, isSound};
-ghost use Rattle.waiting_table.specs.Table.{OwnKeys, BlankFrom, Formed64, formed64, WellFormed, wellFormed, rowsOf, tableOf, inserted, replaced, removed, looked};
+ghost use Rattle.waiting_table.specs.Table.{Formed64, formed64, WellFormed, wellFormed, rowsOf, tableOf, inserted, removed, looked};
 
 // A sender with its samples.
 pub struct WaitingEntry {
@@ -60,54 +58,14 @@ fn is_sound(e: WaitingEntry) -> bool
     lqas.well_formed()
 }
 
-// Whether each entry in use stands under its own address.
-fn own_keys(t: WaitingTable) -> bool
-    requires { ⌜ t .count ≤ 64 ⌝ }
-    ensures { λ r. ⌜ Tells (OwnKeys t) r ⌝ }
+// Whether a place holds what it may: a sound entry where it is in use, else the blank one.
+fn place_holds(used: bool, e: WaitingEntry) -> bool
+    ensures { λ r. ⌜ r ≡ cond used (isSound e) (isBlank e) ⌝ }
 {
-    let n = t.count;
-    let mut i: usize = 0;
-    while i < n {
-        let k = t.keys[i];
-        let e = t.entries[i];
-        if k != e.network_address.0 as u64 {
-            return false;
-        }
-        i += 1;
+    if used {
+        return is_sound(e);
     }
-    true
-}
-
-// Whether the places that are not in use hold the blank entry.
-fn blank_from(t: WaitingTable) -> bool
-    ensures { λ r. ⌜ Tells (BlankFrom t) r ⌝ }
-{
-    let mut i = t.count;
-    while i < 64 {
-        let e = t.entries[i];
-        if !is_blank(e) {
-            return false;
-        }
-        i += 1;
-    }
-    true
-}
-
-// Whether every entry in use is sound.
-fn rows_sound(t: WaitingTable) -> bool
-    requires { ⌜ Formed64 t ⌝ }
-    ensures { λ r. ⌜ r ≡ every isSound (rowsOf t) ⌝ }
-{
-    let n = t.count;
-    let mut i: usize = 0;
-    while i < n {
-        let e = t.entries[i];
-        if !is_sound(e) {
-            return false;
-        }
-        i += 1;
-    }
-    true
+    is_blank(e)
 }
 
 // Whether the keys, the entries and the count make a table, whatever the entries say.
@@ -121,13 +79,16 @@ pub fn formed(t: WaitingTable) -> bool
     if !flat_map::rising(&t.keys, n) {
         return false;
     }
-    if !own_keys(t) {
-        return false;
+    let mut kept = true;
+    let mut i: usize = 0;
+    while i < 64 {
+        let k = t.keys[i];
+        let e = t.entries[i];
+        let blank = is_blank(e);
+        kept = kept & ((k == e.network_address.0 as u64) & ((i < n) | blank));
+        i += 1;
     }
-    if !flat_map::zero_from(&t.keys, n) {
-        return false;
-    }
-    blank_from(t)
+    kept
 }
 
 // An entry put in at a place, both arrays shifted right.
@@ -149,16 +110,6 @@ fn insert_at(t: WaitingTable, i: usize, key: u64, e: WaitingEntry) -> WaitingTab
         j += 1;
     }
     u.count = t.count + 1;
-    u
-}
-
-// The entry at a place replaced.
-fn set_at(t: WaitingTable, i: usize, e: WaitingEntry) -> WaitingTable
-    requires { ⌜ i < 64 ⌝ }
-    ensures { λ r. ⌜ r ≡ replaced t i e ⌝ }
-{
-    let mut u = t;
-    u.entries[i] = e;
     u
 }
 
@@ -216,18 +167,23 @@ pub fn new() -> WaitingTable
 pub fn well_formed(t: WaitingTable) -> bool
     ensures { λ r. ⌜ r ≡ wellFormed t ⌝ }
 {
-    if !formed(t) {
+    let n = t.count;
+    if 64 < n {
         return false;
     }
-    rows_sound(t)
-}
-
-// Where an address stands among the keys, or where it would stand.
-fn place_of(t: WaitingTable, nwk: Nwk) -> Place
-    requires { ⌜ Formed64 t ⌝ }
-    ensures { λ r. ⌜ r ≡ placeOf (take (t .count) (t .keys)) (nwk .0) ⌝ }
-{
-    flat_map::index_of(&t.keys, t.count, nwk.0 as u64)
+    if !flat_map::rising(&t.keys, n) {
+        return false;
+    }
+    let mut kept = true;
+    let mut i: usize = 0;
+    while i < 64 {
+        let k = t.keys[i];
+        let e = t.entries[i];
+        let holds = place_holds(i < n, e);
+        kept = kept & ((k == e.network_address.0 as u64) & holds);
+        i += 1;
+    }
+    kept
 }
 
 // The samples of a sender.
@@ -235,7 +191,7 @@ pub fn find(t: WaitingTable, nwk: Nwk) -> WaitingLookup
     requires { ⌜ Formed64 t ⌝ }
     ensures { λ r. ⌜ r ≡ looked (lookup waitingKey (nwk .0) (rowsOf t)) ⌝ }
 {
-    let place = place_of(t, nwk);
+    let place = flat_map::index_of(&t.keys, t.count, nwk.0 as u64);
     match place {
         Place::Found(i) => {
             let e = t.entries[i];
@@ -250,7 +206,7 @@ pub fn has_room(t: WaitingTable, nwk: Nwk) -> bool
     requires { ⌜ Formed64 t ⌝ }
     ensures { λ r. ⌜ r ≡ leb (countWith waitingKey (nwk .0) (rowsOf t)) 64 ⌝ }
 {
-    let place = place_of(t, nwk);
+    let place = flat_map::index_of(&t.keys, t.count, nwk.0 as u64);
     match place {
         Place::Found(_) => true,
         Place::Missing(_) => t.count < 64,
@@ -263,10 +219,15 @@ pub fn put(t: WaitingTable, e: WaitingEntry) -> WaitingTable
     ensures { λ r. ⌜ r ≡ tableOf (put waitingKey e (rowsOf t)) ⌝ }
 {
     let nwk = e.network_address;
-    let place = place_of(t, nwk);
+    let key = nwk.0 as u64;
+    let place = flat_map::index_of(&t.keys, t.count, key);
     match place {
-        Place::Found(i) => set_at(t, i, e),
-        Place::Missing(i) => insert_at(t, i, nwk.0 as u64, e),
+        Place::Found(i) => {
+            let mut u = t;
+            u.entries[i] = e;
+            u
+        }
+        Place::Missing(i) => insert_at(t, i, key, e),
     }
 }
 
@@ -275,7 +236,7 @@ pub fn remove(t: WaitingTable, nwk: Nwk) -> WaitingTable
     requires { ⌜ Formed64 t ⌝ }
     ensures { λ r. ⌜ r ≡ tableOf (remove waitingKey (nwk .0) (rowsOf t)) ⌝ }
 {
-    let place = place_of(t, nwk);
+    let place = flat_map::index_of(&t.keys, t.count, nwk.0 as u64);
     match place {
         Place::Found(i) => remove_at(t, i),
         Place::Missing(_) => t,

@@ -4,6 +4,8 @@ use Prim.Native.Nat.{ℕ, _<_}
 use mathlib.Core.Path.{sym, ap, _∙_}
 use native.Mathlib.Omega.{arith}
 use borrow.Author.Needs.{needs}
+use lib.ListN.{take}
+use Rattle.flat_map.specs.Seek.{placeOf}
 use Rattle.flat_map.proofs.Ordered.{count-with-missing}
 use Rattle.flat_map.proofs.Table.{rows-length, found-within, missing-row, replaced, inserted}
 use Rattle.standard.specs.Ordered as ordered
@@ -13,64 +15,69 @@ use Rattle.discovery_table.proofs.Rows.{as-table}
 use Rattle.discovery_table.proofs.put.Statement.{statement}
 use Rattle.discovery_table.proofs.put.Tie as tie
 
-place-of-requires : tie.Need-place-of-requires
-place-of-requires c κs = c .before .pre .0
+pair-key-requires : tie.Need-pair-key-requires
+pair-key-requires c κs = search needs
+
+index-of-requires : tie.Need-index-of-requires
+index-of-requires c κs = search needs
 
 enum-known-place : tie.Need-enum-known-place
 enum-known-place c = search needs
 
-set-at-requires : tie.Need-set-at-requires
-set-at-requires c κs =
-    let at = c .before in
-    let s = at .before .before .before .before in
-    let t = s .args .t in
-    omega (arith, s .pre .0 .small, found-within 32 discoveryKey table.blankDiscovery (t .keys) (t .entries) (t .count) (s .pre .0) _ _ (sym (at .place .given .1) ∙ at .before .before .place-of .ensures))
+within : (c : tie.After-place) → c .place .given .0 .0 < 32
+within c =
+    let s = c .before .before .before .before .before .before .before .before in
+    let t = s .args .t1 in
+    omega (arith, s .pre .0 .small, found-within 32 discoveryKey table.blankDiscovery (t .keys) (t .entries) (t .count) (s .pre .0) _ _ (sym (c .place .given .1) ∙ c .before .before .index-of .ensures ∙ ap (placeOf (take (t .count) (t .keys))) (c .before .before .before .before .before .before .pair-key .ensures)))
+
+mul-e : tie.Need-mul-e
+mul-e c = omega (arith, within (c .before))
+
+element-set-from-e : tie.Need-element-set-from-e
+element-set-from-e c = within (c .before)
 
 enum-known-place-2 : tie.Need-enum-known-place-2
 enum-known-place-2 c = search needs
 
-pair-key-requires : tie.Need-pair-key-requires
-pair-key-requires c κs = search needs
-
 -- a missing key whose entry fits has a free place
-free : (c : tie.After-place2) → c .before .before .before .before .args .t .count < 32
+free : (c : tie.After-place2) → c .before .before .before .before .before .before .before .before .args .t1 .count < 32
 free c =
-    let s = c .before .before .before .before in
-    let t = s .args .t in
-    let row = missing-row 32 discoveryKey table.blankDiscovery (t .keys) (t .entries) (t .count) (s .pre .0) _ _ (sym (c .place2 .given .1) ∙ c .before .before .place-of .ensures) in
+    let s = c .before .before .before .before .before .before .before .before in
+    let t = s .args .t1 in
+    let row = missing-row 32 discoveryKey table.blankDiscovery (t .keys) (t .entries) (t .count) (s .pre .0) _ _ (sym (c .place2 .given .1) ∙ c .before .before .index-of .ensures ∙ ap (placeOf (take (t .count) (t .keys))) (c .before .before .before .before .before .before .pair-key .ensures)) in
     omega (arith, s .pre .1, count-with-missing discoveryKey (discoveryKey (s .args .e)) (table.rowsOf t) row, rows-length 32 discoveryKey table.blankDiscovery (t .keys) (t .entries) (t .count) (s .pre .0))
 
 insert-at-requires : tie.Need-insert-at-requires
-insert-at-requires c κs = free (c .before .before)
+insert-at-requires c κs = free (c .before)
 
 returns : tie.Need-returns
 returns c =
-    let at = c .before .before in
-    let s = at .before .before .before .before in
-    let t = s .args .t in
-    c .set-at .ensures
-    ∙ as-table (table.replaced t (at .place .given .0 .0) (s .args .e)) (ordered.put discoveryKey (s .args .e) (table.rowsOf t))
-    (replaced 32 discoveryKey table.blankDiscovery (t .keys) (t .entries) (t .count) (s .pre .0) (s .args .e) _ (sym (at .place .given .1) ∙ at .before .before .place-of .ensures))
+    let at = c .before in
+    let s = at .before .before .before .before .before .before .before .before in
+    let t = s .args .t1 in
+    as-table (table.replaced t (at .place .given .0 .0) (s .args .e)) (ordered.put discoveryKey (s .args .e) (table.rowsOf t))
+    (replaced 32 discoveryKey table.blankDiscovery (t .keys) (t .entries) (t .count) (s .pre .0) (s .args .e) _ (sym (at .place .given .1) ∙ at .before .before .index-of .ensures ∙ ap (placeOf (take (t .count) (t .keys))) (at .before .before .before .before .before .before .pair-key .ensures)))
 
 returns-2 : tie.Need-returns-2
 returns-2 c =
-    let at = c .before .before .before in
-    let s = at .before .before .before .before in
-    let t = s .args .t in
+    let at = c .before .before in
+    let s = at .before .before .before .before .before .before .before .before in
+    let t = s .args .t1 in
     c .insert-at .ensures
-    ∙ ap (λ (k : ℕ). table.inserted t (at .place2 .given .0 .0) k (s .args .e)) (c .before .pair-key .ensures)
+    ∙ ap (λ (k : ℕ). table.inserted t (at .place2 .given .0 .0) k (s .args .e)) (at .before .before .before .before .before .before .pair-key .ensures)
     ∙ as-table (table.inserted t (at .place2 .given .0 .0) (discoveryKey (s .args .e)) (s .args .e)) (ordered.put discoveryKey (s .args .e) (table.rowsOf t))
-    (inserted 32 discoveryKey table.blankDiscovery (t .keys) (t .entries) (t .count) (s .pre .0) (s .args .e) _ (sym (at .place2 .given .1) ∙ at .before .before .place-of .ensures) (free at))
+    (inserted 32 discoveryKey table.blankDiscovery (t .keys) (t .entries) (t .count) (s .pre .0) (s .args .e) _ (sym (at .place2 .given .1) ∙ at .before .before .index-of .ensures ∙ ap (placeOf (take (t .count) (t .keys))) (at .before .before .before .before .before .before .pair-key .ensures)) (free at))
 
 pub put-spec : {M : Type 1} → statement M
 put-spec =
     tie.close
     (tie.spec
-    place-of-requires
-    enum-known-place
-    set-at-requires
-    enum-known-place-2
     pair-key-requires
+    index-of-requires
+    enum-known-place
+    mul-e
+    element-set-from-e
+    enum-known-place-2
     insert-at-requires
     returns
     returns-2)

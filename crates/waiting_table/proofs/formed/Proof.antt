@@ -1,74 +1,107 @@
--- Each test tells one field of well-formedness, and the arrays have their lengths by their types;
--- so the answer tells it, as the computed test does.
+-- Each test tells a part of well-formedness: the keys go up, and the places passed are kept; the arrays have their lengths by
+-- their types. So the answer tells it, as the computed test does. The measure is the places left.
+use Prim.Native.Nat.{ℕ, _<_, _-_}
 use borrow.Author.Needs.{needs}
 use native.Mathlib.Omega.{arith}
-use mathlib.Core.Path.{_≡_}
+use mathlib.Core.Path.{_≡_, refl}
 use lib.ListN.{length}
 use borrow.Author.Tests.{not-true, not-false}
+use Rattle.standard.specs.Tells.{Tells}
 use Rattle.standard.proofs.Tells.{not-so, denied, tells-one}
+use Rattle.flat_map.proofs.Kept.{Kept, none-told, kept-more, all-kept}
+use Rattle.flat_map.proofs.Lists.{any-default}
 use Rattle.flat_map.proofs.Shift.{unmapped}
+use Rattle.waiting_table.specs.Entry.{waitingKey, blankWaiting, isBlank}
+use Rattle.waiting_table.proofs.Entry.{blank-told}
 use Rattle.waiting_table.proofs.Rows.{formed-told}
 use Rattle.waiting_table.proofs.formed.Statement.{statement}
 use Rattle.waiting_table.proofs.formed.Tie as tie
 
+abbrev Inv-loop : tie.InvT-loop
+Inv-loop t n kept₀ i₀ kept i = Tells ((m : ℕ) → m < i → Kept waitingKey blankWaiting (t .keys) (t .entries) (t .count) m) kept
+
+abbrev μ-loop : tie.MeasureT-loop
+μ-loop t n kept₀ i₀ kept i = 64 - i
+
 -- an array of structs, as long as its type says
-long : (c : tie.Start) → length (c .args .t1 .entries) ≡ 64
+long : (c : tie.Start Inv-loop μ-loop) → length (c .args .t1 .entries) ≡ 64
 long c = search (needs, unmapped)
 
-returns : tie.Need-returns
+returns : tie.Need-returns Inv-loop μ-loop
 returns c = tells-one (not-so (λ w. omega (arith, w .small))) (formed-told _)
 
-rising-requires : tie.Need-rising-requires
+rising-requires : tie.Need-rising-requires Inv-loop μ-loop
 rising-requires c κs = search needs
 
-returns-2 : tie.Need-returns-2
+returns-2 : tie.Need-returns-2 Inv-loop μ-loop
 returns-2 c = tells-one (not-so (λ w. denied (c .before .rising .ensures) (not-true _ (c .if2 .taken)) (w .rising))) (formed-told _)
 
-own-keys-requires : tie.Need-own-keys-requires
-own-keys-requires c κs = search needs
+loop-holds : tie.Need-loop-holds Inv-loop μ-loop
+loop-holds c = none-told _
 
-returns-3 : tie.Need-returns-3
-returns-3 c = tells-one (not-so (λ w. denied (c .before .own-keys .ensures) (not-true _ (c .if3 .taken)) (w .own))) (formed-told _)
+mul-k : tie.Need-mul-k Inv-loop μ-loop
+mul-k c = search needs
 
-zero-from-requires : tie.Need-zero-from-requires
-zero-from-requires c κs = search needs
+element-copy-out-k : tie.Need-element-copy-out-k Inv-loop μ-loop
+element-copy-out-k c = search needs
 
-returns-4 : tie.Need-returns-4
-returns-4 c = tells-one (not-so (λ w. denied (c .before .zero-from .ensures) (not-true _ (c .if4 .taken)) (w .zeros))) (formed-told _)
+mul-e : tie.Need-mul-e Inv-loop μ-loop
+mul-e c = search needs
 
-blank-from-requires : tie.Need-blank-from-requires
-blank-from-requires c κs = search needs
+element-copy-out-e : tie.Need-element-copy-out-e Inv-loop μ-loop
+element-copy-out-e c = search needs
 
-returns-5 : tie.Need-returns-5
-returns-5 c =
-    let at4 = c .before in
-    let at3 = at4 .before .before .before .before .before in
-    let at2 = at3 .before .before in
+is-blank-requires : tie.Need-is-blank-requires Inv-loop μ-loop
+is-blank-requires c κs = search needs
+
+cast-kept : tie.Need-cast-kept Inv-loop μ-loop
+cast-kept c = search needs
+
+add-i : tie.Need-add-i Inv-loop μ-loop
+add-i c = search needs
+
+loop-less : tie.Need-loop-less Inv-loop μ-loop
+loop-less c = search needs
+
+-- the place looked at is one of the 64
+within : (c : tie.In-loop Inv-loop μ-loop) → c .before .loop .i < length (c .before .before .before .before .before .before .before .before .args .t1 .entries)
+within c = omega (arith, long (c .before .before .before .before .before .before .before .before))
+
+loop-again : tie.Need-loop-again Inv-loop μ-loop
+loop-again c =
+    let at = c .before .before .before .before in
+    let v = at .before .loop in
+    let t = at .before .before .before .before .before .before .before .before .args .t1 in
+    kept-more waitingKey blankWaiting (t .keys) (t .entries) (t .count) isBlank blank-told (v .i) _ (any-default (t .entries) (v .i) _ blankWaiting (within at)) (c .before .is-blank .ensures) (v .inv)
+
+returns-3 : tie.Need-returns-3 Inv-loop μ-loop
+returns-3 c =
+    let v = c .before .loop in
+    let up = c .before .before in
+    let s = up .before .before .before .before .before .before in
+    let t = s .args .t1 in
     tells-one
-    (record {
-      fact = λ e. record {
-        key-places = search needs;
-        entry-places = long (at2 .before .before .before .before .before .before);
-        small = search needs;
-        rising = at2 .before .rising .ensures .fact (not-false _ (at2 .if2 .left));
-        own = at3 .before .own-keys .ensures .fact (not-false _ (at3 .if3 .left));
-        zeros = at4 .before .zero-from .ensures .fact (not-false _ (at4 .if4 .left));
-        blanks = c .blank-from .ensures .fact e;
-      };
-      flag = λ w. c .blank-from .ensures .flag (w .blanks);
-    })
-    (formed-told _)
+    (all-kept waitingKey blankWaiting (t .keys) (t .entries) (t .count) 64 refl (search needs) (long s) (search needs)
+    (up .before .rising .ensures .fact (not-false _ (up .if2 .left))) (v .i) (search needs) (v .inv))
+    (formed-told t)
 
 pub formed-spec : {M : Type 1} → statement M
 formed-spec =
     tie.close
     (tie.spec
+    Inv-loop
+    μ-loop
     returns
     rising-requires
     returns-2
-    own-keys-requires
-    returns-3
-    zero-from-requires
-    returns-4
-    blank-from-requires
-    returns-5)
+    loop-holds
+    mul-k
+    element-copy-out-k
+    mul-e
+    element-copy-out-e
+    is-blank-requires
+    cast-kept
+    add-i
+    loop-less
+    loop-again
+    returns-3)
