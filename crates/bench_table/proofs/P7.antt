@@ -1,5 +1,5 @@
 -- P7: "own search, route Active, cost equal to residual: drop. Route Inactive, cost higher: established."
-use mathlib.Core.List.{[], _∷_, map}
+use mathlib.Core.List.{[], _∷_}
 use mathlib.Core.Path.{_≡_, refl}
 use Rattle.standard.specs.declared.RouteReplyDisposition.the-variants.{Drop, Established}
 use Rattle.standard.specs.declared.Status.the-variants.{Active, Inactive}

@@ -1,5 +1,5 @@
 -- P8: "expiration equal to now: removed; one millisecond later than now: kept."
-use Prim.Native.Nat.{ℕ, _+_, _<_}
+use Prim.Native.Nat.{ℕ, _+_}
 use mathlib.Core.List.{List, [], _∷_}
 use mathlib.Core.Path.{_≡_, refl}
 use native.Mathlib.Omega.{arith}
@@ -13,7 +13,6 @@ use Rattle.standard.specs.Expiry.{expired}
 use Rattle.standard.specs.Ordered.{lookup, put, keep}
 use Rattle.standard.specs.Query.{someFits}
 use Rattle.standard.specs.Route.{nwk}
-use Rattle.standard.specs.Tables.{Tables}
 use Rattle.flat_map.specs.Table.{formed}
 use Rattle.route_table.specs.Table as routes
 use Rattle.discovery_table.specs.Table as discoveries

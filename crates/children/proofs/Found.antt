@@ -1,13 +1,12 @@
 -- What the look-ups of a child say: a neighbour that is known stands under its own key, so there is a place for it;
 -- and an entry that a joining child starts from stands under the child's address.
 use Prim.Native.Nat.{ℕ}
-use mathlib.Core.Bool.{Bool, true, false, true≢false, false≢true}
+use mathlib.Core.Bool.{true, false, true≢false, false≢true}
 use mathlib.Core.List.{List}
 use mathlib.Core.Option.{Option, none, some}
 use mathlib.Core.Path.{_≡_, refl, sym, ap, _∙_, subst}
 use Rattle.types.specs.declared.Eui64.{Eui64}
 use Rattle.standard.specs.Ordered.{Ascending, lookup}
-use Rattle.standard.specs.Query.{first}
 use Rattle.flat_map.proofs.Filter.{first-lookup}
 use Rattle.flat_map.proofs.Ordered.{none-some, lookup-key}
 use Rattle.neighbor_table.specs.declared.NeighborEntry.{NeighborEntry}

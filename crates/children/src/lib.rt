@@ -18,7 +18,6 @@ use types::Nwk;
 use types::Refusal;
 use types::Sum;
 ghost use mathlib.Core.Path.{_≡_};
-ghost use mathlib.Core.Bool.{Bool};
 ghost use Prim.Native.Nat.{_≤_};
 ghost use Rattle.standard.specs.Ordered.{countWith};
 ghost use Rattle.neighbor_table.specs.Entry.{neighborKey};
@@ -26,7 +25,7 @@ ghost use Rattle.neighbor_table.specs.Table.{Formed64, rowsOf, looked};
 ghost use Rattle.neighbors.specs.State.{WellFormed, rows};
 ghost use Rattle.children.specs.Known.{byName, byAddress, known};
 ghost use Rattle.children.specs.Attach.{startIn, attached};
-ghost use Rattle.children.specs.Calls.{truth, refusedTruth, nothingTaken, refusedTaken, refusedRemoval, kept, placed, refreshChildTimeoutCore, refreshChildTimeout, setChildTimeoutCore, setChildTimeout, takeChildCore, takeChild, evictTimedOutChildrenCore, evictTimedOutChildren, upsertChildCore, upsertChild};
+ghost use Rattle.children.specs.Calls.{truth, refusedTruth, refusedTaken, refusedRemoval, kept, placed, refreshChildTimeoutCore, refreshChildTimeout, setChildTimeoutCore, setChildTimeout, takeChildCore, takeChild, evictTimedOutChildrenCore, evictTimedOutChildren, upsertChildCore, upsertChild};
 
 // An extended address that may be given.
 pub enum MaybeEui64 {

@@ -5,11 +5,11 @@ use native.Mathlib.Nat.{le-of-suc-le-suc, not-suc-le-zero}
 use native.Mathlib.Omega.{arith}
 use mathlib.Core.Bool.{Bool, true, false, cond, _&&_, false≢true}
 use mathlib.Core.List.{List, [], _∷_, map}
-use mathlib.Core.Option.{Option, none, some}
+use mathlib.Core.Option.{some}
 use mathlib.Core.Path.{_≡_, refl, sym, ap, _∙_}
-use lib.ListN.{length, getD, set}
+use lib.ListN.{length, getD}
 use Rattle.standard.specs.Ordered.{lookup, put, remove, popFirst, keep}
-use Rattle.standard.specs.Query.{first, changeFirst}
+use Rattle.standard.specs.Query.{changeFirst}
 use Rattle.flat_map.specs.Table.{every}
 use Rattle.flat_map.proofs.Compare.{Tri, lt, eq, gt, tri}
 use Rattle.flat_map.proofs.Ordered.{none-some, lookup-here, lookup-past, lookup-none, put-none, put-lt, put-eq, put-gt, remove-none, remove-here, remove-past}

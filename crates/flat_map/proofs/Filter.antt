@@ -1,15 +1,15 @@
 -- Rows picked by a question: the first that fits stands under its own key, and a loop that collects what it picks has still
 -- the rest to do. Each law takes the next row off, and goes by whether it fits.
-use Prim.Native.Nat.{ℕ, zero, suc, _+_, _<_, _≤_, min}
+use Prim.Native.Nat.{ℕ, _+_, _<_, _≤_}
 use native.Mathlib.Omega.{arith}
 use mathlib.Core.Bool.{Bool, true, false, cond, _||_}
 use mathlib.Core.List.{List, [], _∷_, _++_, map, append-nil, append-assoc}
 use mathlib.Core.Option.{Option, none, some}
 use mathlib.Core.Path.{_≡_, refl, sym, ap, _∙_, subst}
-use lib.ListN.{length, drop, set, length-append}
-use Rattle.standard.specs.Ordered.{Before, Ascending, lookup, put, keep}
-use Rattle.standard.specs.Query.{first, someFits, countFits, changeFirst}
-use Rattle.standard.specs.Rows.{putBack, lesser, least}
+use lib.ListN.{length, set, length-append}
+use Rattle.standard.specs.Ordered.{Before, Ascending, lookup, keep}
+use Rattle.standard.specs.Query.{first, someFits, changeFirst}
+use Rattle.standard.specs.Rows.{putBack, lesser}
 use Rattle.flat_map.specs.Rows.{pad}
 use Rattle.flat_map.proofs.Ordered.{none-some, lookup-here, lookup-past, lookup-below, put-eq, put-gt}
 use Rattle.flat_map.proofs.Query.{push-pad}

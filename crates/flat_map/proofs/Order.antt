@@ -1,11 +1,10 @@
 -- A missing key put in at its place, and a key taken out, leave ascending keys ascending;
 -- and the order that a loop tests place by place is the order of the list.
-use Prim.Native.Nat.{ℕ, zero, suc, _+_, _<_, _≤_, zero-le, suc-le-suc}
+use Prim.Native.Nat.{ℕ, zero, suc, _+_, _<_}
 use native.Mathlib.Nat.{le-of-suc-le-suc, not-suc-le-zero, lt-trans}
 use native.Mathlib.Numerals.{add-one}
 use native.Mathlib.Omega.{arith}
 use mathlib.Core.List.{List, [], _∷_}
-use mathlib.Core.Path.{_≡_, refl, sym, ap, _∙_, subst}
 use lib.ListN.{length, getD}
 use Rattle.standard.specs.Ordered.{Before, Asc}
 use Rattle.standard.proofs.Tells.{yes-so, tells-both, tells-lt}

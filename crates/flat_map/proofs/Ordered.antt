@@ -4,12 +4,11 @@ use Prim.Native.Nat.{ℕ, suc, _<_, _≤_}
 use mathlib.Core.Path.{_≡_, refl, sym, ap, _∙_, subst}
 use mathlib.Core.Bool.{Bool, true, false, cond}
 use mathlib.Core.List.{List, [], _∷_, map}
-use mathlib.Core.Option.{Option, none, some}
+use mathlib.Core.Option.{none, some}
 use native.Mathlib.Omega.{arith}
-use lib.Dec.{ltb, eqb}
 use lib.ListN.{length}
 use borrow.Author.Tests.{lt-ltb, le-ltb, eq-eqb, ne-eqb}
-use Rattle.standard.specs.Ordered.{Before, Asc, Ascending, lookup, put, countWith, remove, popFirst, keep}
+use Rattle.standard.specs.Ordered.{Before, Ascending, lookup, put, countWith, remove, popFirst, keep}
 use Rattle.flat_map.proofs.Compare.{Tri, lt, eq, gt, tri}
 use Rattle.flat_map.proofs.Order.{before-trans}
 

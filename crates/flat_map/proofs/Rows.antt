@@ -3,11 +3,10 @@
 use Prim.Native.Nat.{ℕ, zero, suc, _+_, _<_, _≤_, zero-le, suc-le-suc}
 use native.Mathlib.Nat.{le-of-suc-le-suc, not-suc-le-zero}
 use native.Mathlib.Numerals.{add-one}
-use mathlib.Core.Bool.{Bool, true, false, cond}
+use mathlib.Core.Bool.{Bool, true, false}
 use mathlib.Core.List.{List, [], _∷_, _++_, map}
-use mathlib.Core.Path.{_≡_, refl, sym, ap, _∙_}
+use mathlib.Core.Path.{_≡_, refl, ap}
 use lib.ListN.{length, getD, take, set}
-use Rattle.standard.specs.Ordered.{keep}
 use Rattle.flat_map.specs.Shift.{shiftIn, shiftOut}
 use Rattle.flat_map.specs.Rows.{pad, insertAt, removeAt, keepFrom, mapFirst, mapFrom}
 

@@ -5,7 +5,7 @@ use native.Mathlib.Numerals.{add-one}
 use native.Mathlib.Omega.{arith}
 use mathlib.Core.Bool.{Bool, true, false}
 use mathlib.Core.List.{List, [], _∷_, map}
-use mathlib.Core.Option.{Option, none, some}
+use mathlib.Core.Option.{none, some}
 use mathlib.Core.Path.{_≡_, refl, sym, ap, _∙_, subst}
 use lib.ListN.{length, take, getD, set, length-set, length-map, List·getD-map}
 use lib.Seq.{map-set-same, ext-getD, length-take-le, getD-take}
@@ -15,7 +15,7 @@ use Rattle.flat_map.specs.declared.Place.the-variants.{Found, Missing}
 use Rattle.flat_map.specs.Seek.{placeOf}
 use Rattle.flat_map.specs.Shift.{shiftIn, shiftOut}
 use Rattle.flat_map.specs.Rows.{pad, insertAt, removeAt, keepFrom, mapFirst}
-use Rattle.flat_map.specs.Table.{Rising, Formed, Fit, Holds}
+use Rattle.flat_map.specs.Table.{Formed, Fit, Holds}
 use Rattle.flat_map.proofs.Lists.{any-default}
 use Rattle.flat_map.proofs.Compare.{Tri, lt, eq, gt, tri}
 use Rattle.flat_map.proofs.Order.{rising-asc, asc-rising, asc-removeAt}

@@ -1,14 +1,12 @@
 -- Tests that are computed tell what they test: a conjunction, comparisons, a test of every element,
 -- and with these the well-formedness of a table.
-use Prim.Native.Nat.{ℕ, zero, suc, _+_, _<_, _≤_, zero-le, suc-le-suc}
+use Prim.Native.Nat.{ℕ, zero, suc, _≤_, zero-le, suc-le-suc}
 use native.Mathlib.Omega.{arith}
 use native.Mathlib.Nat.{le-of-suc-le-suc}
-use mathlib.Core.Bool.{Bool, true, false, _&&_, false≢true}
+use mathlib.Core.Bool.{Bool}
 use mathlib.Core.List.{List, [], _∷_}
-use mathlib.Core.Path.{_≡_, refl, sym, ap, _∙_}
-use lib.Dec.{eqb, ltb, leb}
-use lib.ListN.{length, getD, drop}
-use borrow.Author.Tests.{eqb-true, eq-eqb, ltb-true, lt-ltb, leb-true, le-leb}
+use mathlib.Core.Path.{_≡_, refl}
+use lib.ListN.{getD, drop}
 use Rattle.standard.specs.Tells.{Tells}
 use Rattle.standard.proofs.Tells.{yes-so, not-so, tells-both, tells-eq, tells-so}
 use Rattle.flat_map.specs.Table.{sameKeys, every}

@@ -1,7 +1,7 @@
 -- What the door's functions answer and write. A refusal's number is that of document 01: 8 for a bad length, 10 for a damaged image.
 -- Assumes nothing.
 use Prim.Native.Nat.{ℕ}
-use mathlib.Core.Bool.{Bool, cond}
+use mathlib.Core.Bool.{cond}
 use mathlib.Core.List.{List, [], _∷_}
 use lib.Dec.{eqb, ltb}
 use lib.ListN.{length, replicate}

@@ -2,10 +2,10 @@
 -- at most 7; the samples are those stored, or those that waited with one more.
 use Prim.Native.Nat.{ℕ, _≤_}
 use native.Mathlib.Omega.{arith}
-use mathlib.Core.Bool.{Bool, true, false, cond, not, _&&_}
+use mathlib.Core.Bool.{Bool, true, false, cond, not}
 use mathlib.Core.List.{List, [], _∷_}
 use mathlib.Core.Option.{Option, none, some}
-use mathlib.Core.Path.{_≡_, refl, sym, ap, _∙_, subst}
+use mathlib.Core.Path.{_≡_, refl, sym, subst}
 use borrow.Author.Tests.{leb-true, le-leb}
 use lib.Dec.{leb, ltb, eqb}
 use Rattle.types.specs.declared.Nwk.{Nwk}

@@ -23,7 +23,6 @@ use Rattle.neighbor_table.specs.declared.NeighborLookup.{NeighborLookup}
 use Rattle.neighbor_table.specs.Entry.{neighborKey, isEndDevice}
 use Rattle.neighbor_table.specs.Table as neighbours
 use Rattle.waiting_table.specs.declared.WaitingEntry.{WaitingEntry}
-use Rattle.waiting_table.specs.declared.WaitingTable.{WaitingTable}
 use Rattle.waiting_table.specs.Entry.{waitingKey}
 use Rattle.waiting_table.specs.Table as waiting
 use Rattle.neighbors.specs.declared.Neighbors.{Neighbors}

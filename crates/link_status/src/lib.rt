@@ -23,7 +23,6 @@ ghost use Rattle.flat_map.specs.Table.{every};
 ghost use Rattle.standard.specs.Ordered.{countWith};
 ghost use Rattle.neighbor_table.specs.Entry.{neighborKey};
 ghost use Rattle.neighbors.specs.State.{WellFormed, rows};
-ghost use Rattle.children.specs.Calls.{refusedTaken};
 ghost use Rattle.waiting_table.specs.Table as waiting;
 ghost use Rattle.link_status.specs.Digest.{asRouter, begun, finished, newRouter, samplesOf, digested, admitted, onLinkStatusCore, onLinkStatus};
 ghost use Rattle.neighbor_table.specs.Table.{Formed64, rowsOf};

@@ -1,6 +1,6 @@
 -- What an entry says of its link is what its samples mean: the cost of a well-formed ring's quality is the incoming cost
 -- of the samples held, by the ring's law; and no cost is above 7.
-use Prim.Native.Nat.{ℕ, _≤_}
+use Prim.Native.Nat.{_≤_}
 use native.Mathlib.Omega.{arith}
 use mathlib.Core.Bool.{Bool, true, false, cond}
 use mathlib.Core.Path.{_≡_, refl, sym, _∙_}

@@ -1,11 +1,10 @@
 -- The test of the blank entry tells it: each part of the test tells one field,
 -- the first variants by their number, and the samples by the ring's own test.
-use Prim.Native.Nat.{ℕ}
 use native.Mathlib.Omega.{arith}
-use mathlib.Core.Bool.{Bool, true, false, not, true≢false}
+use mathlib.Core.Bool.{false}
 use mathlib.Core.Path.{_≡_, refl, ap}
 use Rattle.standard.specs.Tells.{Tells}
-use Rattle.standard.proofs.Tells.{yes-so, not-so, tells-both, tells-eq, tells-so, tells-false}
+use Rattle.standard.proofs.Tells.{tells-both, tells-eq, tells-false}
 use Rattle.ring_buffer.specs.Ring as ring
 use Rattle.ring_buffer.proofs.Fresh.{tells-fresh}
 use Rattle.neighbor_table.specs.declared.NwkDeviceType.{NwkDeviceType}

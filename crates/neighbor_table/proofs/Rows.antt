@@ -6,13 +6,13 @@ use mathlib.Core.Bool.{Bool, true, false, true≢false, false≢true}
 use mathlib.Core.List.{List, [], _∷_, map}
 use mathlib.Core.Option.{Option, none, some}
 use mathlib.Core.Path.{_≡_, refl, sym, ap, _∙_, subst}
-use lib.ListN.{length, length-map, getD, drop}
+use lib.ListN.{length-map, getD, drop}
 use Rattle.standard.specs.Ordered.{lookup, put, remove, keep, countWith}
 use Rattle.standard.specs.Query.{first}
 use Rattle.standard.specs.Rows.{putBack}
 use Rattle.standard.specs.Tells.{Tells}
 use Rattle.standard.proofs.Tells.{tells-true, tells-both, tells-so}
-use Rattle.flat_map.specs.Table.{Fit, Holds, every}
+use Rattle.flat_map.specs.Table.{Holds, every}
 use Rattle.flat_map.proofs.Every.{every-lookup, every-put, every-remove, every-keep, every-map}
 use Rattle.flat_map.proofs.Filter.{first-lookup}
 use Rattle.flat_map.proofs.Lists.{any-default}

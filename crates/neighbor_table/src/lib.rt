@@ -13,7 +13,7 @@ ghost use lib.ListN.{length};
 ghost use Rattle.standard.specs.Ordered.{lookup, put, remove, countWith};
 ghost use Rattle.standard.specs.Query.{entryAt};
 ghost use Rattle.neighbor_table.specs.Entry.{isRouter, isEndDevice, isChild, qualityOf, costOf, deviceTypeNumber, relationshipNumber, neighborKey, blankNeighbor, quiet, isBlank, isSound};
-ghost use Rattle.neighbor_table.specs.Table.{Formed64, formed64, WellFormed, wellFormed, rowsOf, tableOf, inserted, removed, looked};
+ghost use Rattle.neighbor_table.specs.Table.{Formed64, formed64, wellFormed, rowsOf, tableOf, inserted, removed, looked};
 
 // What a device is to its network, in the specification's number order.
 pub enum NwkDeviceType {

@@ -1,9 +1,9 @@
 -- The computed test of a state tells whether it is well formed, so a call takes the one way or the other;
 -- and a look-up by a filter finds a neighbour exactly where one fits.
-use mathlib.Core.Bool.{Bool, true, false, cond, _&&_}
+use mathlib.Core.Bool.{Bool, true, false, cond}
 use mathlib.Core.List.{List}
 use mathlib.Core.Option.{Option, none, some}
-use mathlib.Core.Path.{_≡_, refl, sym, ap, _∙_}
+use mathlib.Core.Path.{_≡_, refl, sym}
 use Rattle.standard.specs.Query.{first, someFits}
 use Rattle.standard.specs.Tells.{Tells}
 use Rattle.standard.proofs.Tells.{tells-both, tells-so}

@@ -1,6 +1,5 @@
 -- Every change leaves a well-formed state well formed: each is a step on the neighbours' rows that the table's laws keep fit,
 -- and the waiting samples stay as they were. The counts that are answered are the numbers of rows that fit.
-use mathlib.Core.Bool.{true}
 use mathlib.Core.List.{List}
 use mathlib.Core.Path.{_≡_, ap}
 use lib.ListN.{length}
@@ -14,7 +13,6 @@ use Rattle.neighbor_table.proofs.Rows.{table-fit, table-formed, fit-none, fit-r
 use Rattle.waiting_table.proofs.Rows as waiting
 use Rattle.neighbor_queries.specs.declared.Filter.the-variants.{Address, EndDeviceChild}
 use Rattle.neighbor_queries.specs.Filter.{fits}
-use Rattle.neighbor_changes.specs.declared.Change.{Change}
 use Rattle.neighbor_changes.specs.declared.Change.the-variants as changes
 use Rattle.neighbor_changes.specs.Change.{applied, forgiven}
 use Rattle.neighbor_changes.proofs.Kept.{same-key, still-sound, forgiven-key, forgiven-sound}

@@ -1,6 +1,5 @@
 -- A list gone through leaves a well-formed state well formed, since each step leaves rows that fit;
 -- a list that is too long leaves the state.
-use Prim.Native.Nat.{ℕ}
 use native.Mathlib.Omega.{arith}
 use mathlib.Core.Bool.{Bool, true, false, cond}
 use lib.Dec.{ltb}

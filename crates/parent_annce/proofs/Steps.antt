@@ -1,15 +1,14 @@
 -- A step on the arrays is the step on the rows and lists that they hold, and keeps them fit: a table gives back its rows,
 -- and one more in an array with room is one more in its list.
-use Prim.Native.Nat.{ℕ, suc, _+_, _<_, _≤_}
+use Prim.Native.Nat.{ℕ, _+_, _<_, _≤_}
 use native.Mathlib.Omega.{arith}
 use mathlib.Core.Bool.{Bool, true, false, cond, _&&_}
 use mathlib.Core.List.{List, [], _∷_, _++_}
 use mathlib.Core.Path.{_≡_, refl, sym, ap, _∙_, subst}
-use lib.ListN.{length, length-append, take, drop, getD}
-use lib.Seq.{length-take-le, getD-take}
+use lib.ListN.{length, length-append, drop}
 use Rattle.types.specs.declared.Eui64.{Eui64}
 use Rattle.standard.specs.Ordered.{lookup, remove}
-use Rattle.flat_map.proofs.Query.{push-pad, rest-step, rest-done}
+use Rattle.flat_map.proofs.Query.{push-pad}
 use Rattle.neighbor_table.specs.declared.NeighborEntry.{NeighborEntry}
 use Rattle.neighbor_table.specs.declared.NeighborLookup.{NeighborLookup}
 use Rattle.neighbor_table.specs.Entry.{neighborKey}

@@ -10,7 +10,7 @@ ghost use Prim.Native.Nat.{_+_, _-_, _≤_, _<_};
 ghost use lib.Dec.{leb};
 ghost use lib.ListN.{length, take};
 ghost use Rattle.flat_map.specs.Seek.{placeOf};
-ghost use Rattle.standard.specs.Ordered.{lookup, put, remove, countWith};
+ghost use Rattle.standard.specs.Ordered.{put, remove, countWith};
 ghost use Rattle.standard.specs.Query.{entryAt};
 ghost use Rattle.standard.specs.Record.{recordKey, fewRelays};
 ghost use Rattle.record_table.specs.Table.{blankRecord, isBlank, WellFormed, wellFormed, rowsOf, tableOf, inserted, removed, looked};
@@ -157,21 +157,6 @@ pub fn place_of(t: RecordTable, destination: Nwk) -> Place
     ensures { λ r. ⌜ r ≡ placeOf (take (t .count) (t .keys)) (destination .0) ⌝ }
 {
     flat_map::index_of(&t.keys, t.count, destination.0 as u64)
-}
-
-// The record of a destination.
-pub fn find(t: RecordTable, destination: Nwk) -> RecordLookup
-    requires { ⌜ WellFormed t ⌝ }
-    ensures { λ r. ⌜ r ≡ looked (lookup recordKey (destination .0) (rowsOf t)) ⌝ }
-{
-    let place = flat_map::index_of(&t.keys, t.count, destination.0 as u64);
-    match place {
-        Place::Found(i) => {
-            let e = t.entries[i];
-            RecordLookup::Found(e)
-        }
-        Place::Missing(_) => RecordLookup::Missing,
-    }
 }
 
 // Whether there is room for a record of a destination: a free place, or one that it has already.

@@ -1,8 +1,7 @@
 -- A ring with no sample has one shape, so the test of its count and of its form tells the fresh one;
 -- and what tells a ring's form is the computed test of it.
-use Prim.Native.Nat.{ℕ}
 use native.Mathlib.Omega.{arith}
-use mathlib.Core.Bool.{Bool, true}
+use mathlib.Core.Bool.{Bool}
 use mathlib.Core.Path.{_≡_, refl, ap}
 use Rattle.standard.specs.Tells.{Tells}
 use Rattle.standard.proofs.Tells.{tells-one, tells-eq, tells-both}

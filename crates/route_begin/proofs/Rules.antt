@@ -1,20 +1,19 @@
 -- The outcome by the room that the rows want; a route marked leaves rows that fit, and a discovery kept is one put over itself.
 -- Assumes nothing.
 use Prim.Native.Nat.{ℕ, _≤_}
-use mathlib.Core.Bool.{Bool, true, false, cond}
-use mathlib.Core.Option.{Option, none, some}
-use mathlib.Core.Path.{_≡_, refl, sym, ap, _∙_}
+use mathlib.Core.Bool.{Bool, true, cond}
+use mathlib.Core.Option.{some}
+use mathlib.Core.Path.{_≡_, ap, _∙_}
 use borrow.Author.Tests.{le-leb, leb-true}
 use lib.Dec.{leb}
 use lib.ListN.{length}
 use Rattle.types.specs.declared.Nwk.{Nwk}
 use Rattle.types.specs.declared.Refusal.the-variants.{RouteTableFull, DiscoveryTableFull}
-use Rattle.standard.specs.declared.RouteEntry.{RouteEntry}
 use Rattle.standard.specs.declared.DiscoveryEntry.{DiscoveryEntry}
 use Rattle.standard.specs.declared.Status.the-variants.{DiscoveryUnderway}
 use Rattle.standard.specs.Begin.{begin}
 use Rattle.standard.specs.Discovery.{pairKey, discoveryKey}
-use Rattle.standard.specs.Ordered.{lookup, put, countWith}
+use Rattle.standard.specs.Ordered.{lookup, countWith}
 use Rattle.standard.specs.Route.{routeKey, routeOr, withStatus}
 use Rattle.standard.specs.Tables.{Tables}
 use Rattle.flat_map.proofs.Fits.{fit-put}

@@ -1,6 +1,6 @@
 -- Document 01's refusal 3 in its own words: a route record is refused exactly where more of its addresses are new than places are free.
 -- Each new address makes one record more, and a known one none.
-use Prim.Native.Nat.{ℕ, suc, _+_, _-_, _<_}
+use Prim.Native.Nat.{ℕ, _+_, _-_, _<_}
 use native.Mathlib.Omega.{arith}
 use mathlib.Core.Bool.{false}
 use mathlib.Core.List.{List, [], _∷_, _++_, map, map-id}

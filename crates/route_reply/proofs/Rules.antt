@@ -2,9 +2,9 @@
 -- and the originator's route fits exactly if there is room for it.
 use Prim.Native.Nat.{ℕ, _≤_}
 use mathlib.Core.Bool.{Bool, true, false, cond}
-use mathlib.Core.Option.{Option, none, some}
-use mathlib.Core.Path.{_≡_, refl, sym, ap, _∙_}
-use borrow.Author.Tests.{le-leb, leb-true}
+use mathlib.Core.Option.{some}
+use mathlib.Core.Path.{_≡_, sym, ap, _∙_}
+use borrow.Author.Tests.{le-leb}
 use lib.Dec.{leb}
 use lib.ListN.{length}
 use Rattle.types.specs.declared.Nwk.{Nwk}
@@ -13,11 +13,11 @@ use Rattle.standard.specs.declared.RouteEntry.{RouteEntry}
 use Rattle.standard.specs.declared.DiscoveryEntry.{DiscoveryEntry}
 use Rattle.standard.specs.declared.Update.{Update}
 use Rattle.standard.specs.declared.Update.the-variants.{Same}
-use Rattle.standard.specs.declared.RouteReplyDisposition.the-variants.{Drop, Established, Relay}
+use Rattle.standard.specs.declared.RouteReplyDisposition.the-variants.{Drop, Established}
 use Rattle.standard.specs.Discovery.{discoveryKey}
 use Rattle.standard.specs.Ordered.{lookup, put, countWith}
-use Rattle.standard.specs.Reply.{Replied, dropped, settled, written, established, relayedTo, dropOurs, replyOurs, replyTheirs}
-use Rattle.standard.specs.Route.{routeKey, routeOr, suits, via, considered, news}
+use Rattle.standard.specs.Reply.{Replied, dropped, settled, written, established, dropOurs, replyOurs, replyTheirs}
+use Rattle.standard.specs.Route.{routeKey, routeOr, via, considered, news}
 use Rattle.standard.specs.Tables.{Tables}
 use Rattle.flat_map.proofs.Fits.{fit-put, room-known}
 use Rattle.flat_map.proofs.Ordered.{lookup-key}

@@ -8,13 +8,8 @@ use standard::RouteReplyDisposition;
 use standard::Update;
 use types::Nwk;
 use types::Refusal;
-ghost use mathlib.Core.Option.{some};
 ghost use mathlib.Core.Path.{_≡_};
-ghost use Prim.Native.Nat.{_≤_};
-ghost use Rattle.standard.specs.Discovery.{discoveryKey};
-ghost use Rattle.standard.specs.Ordered.{lookup};
 ghost use Rattle.standard.specs.Reply.{dropped, written, relayedTo, replyOurs, replyTheirs, reply};
-ghost use Rattle.standard.specs.Route.{routeKey};
 ghost use Rattle.search_tables.specs.Packed.{WellFormed, tablesOf, packed};
 ghost use Rattle.route_reply.specs.Answer.{Held, answered};
 

@@ -1,26 +1,25 @@
 -- A request's outcome by the room that its rows want, and which rows it wants:
 -- one under the originator in the routes, one under the pair in the discoveries.
-use Prim.Native.Nat.{ℕ, _≤_}
+use Prim.Native.Nat.{ℕ}
 use mathlib.Core.Bool.{Bool, true, false, cond}
-use mathlib.Core.Path.{_≡_, refl, sym, ap, _∙_}
+use mathlib.Core.Path.{_≡_, sym, ap, _∙_}
 use borrow.Author.Tests.{le-leb}
 use lib.Dec.{leb}
 use lib.ListN.{length}
 use Rattle.types.specs.declared.Nwk.{Nwk}
 use Rattle.types.specs.declared.Refusal.the-variants.{RouteTableFull, DiscoveryTableFull}
-use Rattle.standard.specs.declared.RouteEntry.{RouteEntry}
 use Rattle.standard.specs.declared.DiscoveryEntry.{DiscoveryEntry}
 use Rattle.standard.specs.declared.ManyToOne.{ManyToOne}
 use Rattle.standard.specs.declared.Update.the-variants.{Same}
 use Rattle.standard.specs.Discovery.{pairKey, discoveryKey}
-use Rattle.standard.specs.Ordered.{put, countWith}
+use Rattle.standard.specs.Ordered.{countWith}
 use Rattle.standard.specs.Request.{Requested, accepting, flagged}
 use Rattle.standard.specs.Route.{routeKey, routeOr, considered}
 use Rattle.standard.specs.Tables.{Tables}
 use Rattle.search_tables.specs.declared.SearchTables.{SearchTables}
 use Rattle.search_tables.specs.Packed.{WellFormed, tablesOf, packed, Fits, InKey}
 use Rattle.search_tables.proofs.Packing.{search-view, search-fits, route-or-key, considered-key, flagged-key, routes-after, discoveries-after}
-use Rattle.route_request.specs.declared.RequestAnswer.the-variants.{Refused, Answered}
+use Rattle.route_request.specs.declared.RequestAnswer.the-variants.{Answered}
 use Rattle.route_request.specs.declared.RequestStep.{RequestStep}
 use Rattle.route_request.specs.Answer.{refused, answered}
 

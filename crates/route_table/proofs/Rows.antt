@@ -1,22 +1,20 @@
 -- The route table under the laws of flat_map: the test of the blank entry tells it, the test of the table tells
 -- well-formedness, and a table whose arrays hold rows is the table of these rows.
 use Prim.Native.Nat.{ℕ}
-use mathlib.Core.Bool.{Bool, true, false, cond, not, _&&_, false≢true, true≢false}
+use mathlib.Core.Bool.{Bool, true, false, cond, _&&_}
 use mathlib.Core.List.{List}
 use mathlib.Core.Option.{Option, none, some}
-use mathlib.Core.Path.{_≡_, refl, sym, ap, _∙_}
+use mathlib.Core.Path.{_≡_, refl, ap}
 use native.Mathlib.Omega.{arith}
 use lib.Dec.{eqb}
-use lib.ListN.{length, take}
 use Rattle.types.specs.declared.Nwk.{Nwk}
 use Rattle.standard.specs.Tells.{Tells}
 use Rattle.standard.specs.declared.Status.{Status}
 use Rattle.standard.specs.declared.Status.the-variants.{Active, DiscoveryUnderway, DiscoveryFailed, Inactive}
 use Rattle.standard.specs.declared.RouteEntry.{RouteEntry}
-use Rattle.standard.specs.Ordered.{Ascending}
 use Rattle.standard.specs.Route.{isActive, routeKey, decayed, unlinked}
 use Rattle.standard.proofs.Tells.{yes-so, not-so, tells-both, tells-eq, tells-so, tells-false}
-use Rattle.flat_map.specs.Table.{Formed, Fit, Holds}
+use Rattle.flat_map.specs.Table.{Fit, Holds}
 use Rattle.flat_map.proofs.Table.{view, fit, formed-rows, rows-back}
 use Rattle.flat_map.proofs.WellFormed.{formed-told}
 use Rattle.route_table.specs.declared.RouteTable.{RouteTable}

@@ -1,9 +1,9 @@
 -- Every call leaves a well-formed state well formed: a refusal hands the state back, and any other outcome puts back
 -- rows that fit, since each rule keeps the order and room was tested.
 use Prim.Native.Nat.{ℕ}
-use mathlib.Core.Bool.{Bool, true, false, cond, _&&_}
+use mathlib.Core.Bool.{Bool, true, false, cond}
 use mathlib.Core.Option.{Option, none, some}
-use mathlib.Core.Path.{_≡_, refl, sym, ap, _∙_}
+use mathlib.Core.Path.{_≡_, refl}
 use borrow.Author.Tests.{leb-true}
 use lib.Dec.{leb, eqb, ltb}
 use lib.ListN.{length}
@@ -27,7 +27,6 @@ use Rattle.flat_map.specs.Table.{Fit}
 use Rattle.flat_map.proofs.Fits.{fit-put, room-known}
 use Rattle.flat_map.proofs.Ordered.{ascending-put, lookup-key}
 use Rattle.discovery_table.specs.Table.{blankDiscovery}
-use Rattle.search_tables.specs.declared.SearchTables.{SearchTables}
 use Rattle.search_tables.specs.Packed as search
 use Rattle.search_tables.proofs.Packing.{search-fits, packed-formed}
 use Rattle.expiry.proofs.Fit.{expired-fits}

@@ -2,7 +2,6 @@
 -- the other tables are as they were, and the route table is well formed by the laws of the calls on it.
 use Prim.Native.Nat.{ℕ}
 use mathlib.Core.Bool.{cond}
-use mathlib.Core.Path.{_≡_}
 use Rattle.types.specs.declared.Nwk.{Nwk}
 use Rattle.standard.specs.Route.{routeKey, decayed, unlinked}
 use Rattle.flat_map.proofs.Fits.{fit-map}

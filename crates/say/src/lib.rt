@@ -2,8 +2,8 @@
 use numbers::Answer;
 use numbers::Numbers;
 ghost use mathlib.Core.Path.{_≡_};
-ghost use mathlib.Core.List.{[], _∷_, _++_};
-ghost use Prim.Native.Nat.{_+_, _≤_, _<_};
+ghost use mathlib.Core.List.{_∷_};
+ghost use Prim.Native.Nat.{_+_, _<_};
 ghost use lib.ListN.{take, drop};
 ghost use Rattle.say.specs.Page.{page, putByte, puts};
 ghost use Rattle.say.specs.Text.{digits, decimal, spaced, line, answerLine, putWord, tableLine, endLine};

@@ -3,7 +3,7 @@
 -- Statuses and many-to-one values have the specification's numbers; a reply's answers are drop 0, established 1, relay 2.
 -- Assumes nothing.
 use Prim.Native.Nat.{ℕ}
-use mathlib.Core.List.{List, [], _∷_, _++_}
+use mathlib.Core.List.{List, [], _∷_}
 use Rattle.standard.specs.declared.Status.{Status}
 use Rattle.standard.specs.declared.Status.the-variants.{Active, DiscoveryUnderway, DiscoveryFailed, Inactive}
 use Rattle.standard.specs.declared.ManyToOne.{ManyToOne}

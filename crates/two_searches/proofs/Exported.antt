@@ -1,10 +1,10 @@
 -- A well-formed state is its rows, put in their place; there the exported call is the rule on the rows, since the test passes and
 -- there is room. So what `calls-promise` says of any such call holds of this one.
-use Prim.Native.Nat.{ℕ, _≤_}
+use Prim.Native.Nat.{_≤_}
 use mathlib.Core.Bool.{true}
 use mathlib.Core.List.{List}
 use mathlib.Core.Logic.{_⊎_}
-use mathlib.Core.Path.{_≡_, refl, sym, ap, _∙_, subst}
+use mathlib.Core.Path.{_≡_, sym, ap}
 use lib.ListN.{length}
 use borrow.Author.Tests.{le-leb}
 use Rattle.types.specs.declared.Nwk.{Nwk}

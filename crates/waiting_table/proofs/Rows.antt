@@ -4,12 +4,12 @@ use Prim.Native.Nat.{ℕ, _<_, _≤_}
 use native.Mathlib.Omega.{arith}
 use mathlib.Core.Bool.{true}
 use mathlib.Core.List.{List, []}
-use mathlib.Core.Path.{_≡_, refl, sym, ap, _∙_}
+use mathlib.Core.Path.{_≡_, refl}
 use lib.ListN.{getD}
 use Rattle.standard.specs.Ordered.{put, remove, popFirst, countWith}
 use Rattle.standard.specs.Tells.{Tells}
 use Rattle.standard.proofs.Tells.{tells-true, tells-both, tells-so}
-use Rattle.flat_map.specs.Table.{Fit, Holds, every}
+use Rattle.flat_map.specs.Table.{Holds, every}
 use Rattle.flat_map.proofs.Every.{every-put, every-remove, every-pop}
 use Rattle.flat_map.proofs.Lists.{any-default, popped-length}
 use Rattle.flat_map.proofs.Table.{view, fit, formed-rows, rows-back}

@@ -9,10 +9,9 @@ ghost use mathlib.Core.List.{[]};
 ghost use mathlib.Core.Option.{none, some};
 ghost use Prim.Native.Nat.{_+_, _-_, _≤_, _<_};
 ghost use lib.Dec.{leb};
-ghost use lib.ListN.{length};
 ghost use Rattle.standard.specs.Ordered.{lookup, put, remove, popFirst, countWith};
 ghost use Rattle.waiting_table.specs.Entry.{waitingKey, blankWaiting, isBlank, isSound};
-ghost use Rattle.waiting_table.specs.Table.{Formed64, formed64, WellFormed, wellFormed, rowsOf, tableOf, inserted, removed, looked};
+ghost use Rattle.waiting_table.specs.Table.{Formed64, formed64, wellFormed, rowsOf, tableOf, inserted, removed, looked};
 
 // A sender with its samples.
 pub struct WaitingEntry {
@@ -252,12 +251,4 @@ pub fn pop_first(t: WaitingTable) -> WaitingTable
         return t;
     }
     remove_at(t, 0)
-}
-
-// How many senders wait.
-pub fn len(t: WaitingTable) -> usize
-    requires { ⌜ Formed64 t ⌝ }
-    ensures { λ r. ⌜ r ≡ length (rowsOf t) ⌝ }
-{
-    t.count
 }

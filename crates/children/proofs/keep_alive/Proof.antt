@@ -3,7 +3,7 @@
 use Prim.Native.Nat.{ℕ, _≤_}
 use borrow.Author.Needs.{needs}
 use mathlib.Core.Bool.{true}
-use mathlib.Core.Path.{_≡_, sym, ap, _∙_, subst}
+use mathlib.Core.Path.{sym, ap, _∙_, subst}
 use Rattle.neighbor_changes.proofs.Kept.{same-key}
 use Rattle.neighbor_changes.specs.declared.Change.the-variants.{Keepalive}
 use Rattle.neighbor_table.specs.Entry.{neighborKey}

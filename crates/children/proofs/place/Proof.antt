@@ -3,7 +3,7 @@
 use Prim.Native.Nat.{ℕ, _≤_}
 use borrow.Author.Needs.{needs}
 use borrow.Author.Tests.{leb-true}
-use mathlib.Core.Path.{_≡_, sym, ap, _∙_, subst}
+use mathlib.Core.Path.{sym, ap, _∙_, subst}
 use Rattle.neighbor_table.specs.Entry.{neighborKey}
 use Rattle.neighbor_table.specs.Table.{tableOf}
 use Rattle.neighbor_table.specs.declared.NeighborEntry.{NeighborEntry}

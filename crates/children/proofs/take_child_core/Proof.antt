@@ -2,7 +2,7 @@
 -- Assumes nothing.
 use borrow.Author.Needs.{needs}
 use mathlib.Core.Bool.{Bool, _&&_}
-use mathlib.Core.Path.{_≡_, sym, ap, _∙_}
+use mathlib.Core.Path.{sym, ap, _∙_}
 use Rattle.neighbors.proofs.Checked.{picks-first, picks-second}
 use Rattle.neighbors.specs.State.{withTable}
 use Rattle.neighbors.specs.declared.NwkAnswer.the-variants.{Is}

@@ -1,7 +1,7 @@
 -- A table with room is the table of its rows; in any other the first row goes.
 -- Assumes nothing.
 use borrow.Author.Needs.{needs}
-use mathlib.Core.Path.{_≡_, sym, ap, _∙_}
+use mathlib.Core.Path.{sym, ap, _∙_}
 use Rattle.neighbors.proofs.Checked.{picks-first, picks-second}
 use Rattle.waiting_table.proofs.Rows.{table-view}
 use Rattle.waiting_table.specs.Table.{tableOf}

@@ -1,7 +1,7 @@
 -- A neighbour that is found gets the sample; else it waits.
 -- Assumes nothing.
 use borrow.Author.Needs.{needs}
-use mathlib.Core.Path.{_≡_, sym, ap, _∙_}
+use mathlib.Core.Path.{sym, ap, _∙_}
 use Rattle.neighbor_table.specs.declared.NeighborLookup.{NeighborLookup}
 use Rattle.neighbors.proofs.Checked.{picks-first, picks-second}
 use Rattle.neighbors.specs.State.{withTable}

@@ -4,11 +4,10 @@ use Prim.Native.Nat.{_≤_}
 use borrow.Author.Needs.{needs}
 use mathlib.Core.List.{List}
 use mathlib.Core.Path.{_≡_, sym, ap, _∙_, subst}
-use Rattle.ring_buffer.specs.Ring.{afterPush}
 use Rattle.standard.specs.Ordered.{lookup, put, countWith}
 use Rattle.waiting_table.proofs.Rows.{table-fit, table-formed, table-rows}
 use Rattle.waiting_table.specs.Entry.{waitingKey}
-use Rattle.waiting_table.specs.Table.{Formed64, FitRows, WellFormed, rowsOf, tableOf, looked}
+use Rattle.waiting_table.specs.Table.{Formed64, FitRows, rowsOf, tableOf, looked}
 use Rattle.waiting_table.specs.declared.WaitingEntry.{WaitingEntry}
 use Rattle.waiting_table.specs.declared.WaitingLookup.{WaitingLookup}
 use Rattle.waiting_table.specs.declared.WaitingTable.{WaitingTable}

@@ -2,7 +2,7 @@
 -- Assumes nothing.
 use Prim.Native.Nat.{ℕ, _≤_}
 use borrow.Author.Needs.{needs}
-use mathlib.Core.Path.{_≡_, sym, ap, _∙_, subst}
+use mathlib.Core.Path.{sym, ap, _∙_, subst}
 use Rattle.neighbor_table.specs.Entry.{neighborKey}
 use Rattle.neighbor_table.specs.Table.{tableOf}
 use Rattle.neighbor_table.specs.declared.NeighborEntry.{NeighborEntry}

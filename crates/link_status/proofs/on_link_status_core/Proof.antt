@@ -4,7 +4,7 @@ use Prim.Native.Nat.{ℕ, _≤_}
 use borrow.Author.Needs.{needs}
 use borrow.Author.Tests.{lt-ltb, le-ltb, not-true, not-false}
 use mathlib.Core.Bool.{not}
-use mathlib.Core.Path.{_≡_, sym, ap, _∙_, subst}
+use mathlib.Core.Path.{sym, ap, _∙_, subst}
 use Rattle.flat_map.proofs.Ordered.{lookup-key}
 use Rattle.neighbor_table.proofs.Rows.{found-some, room-for}
 use Rattle.neighbor_table.specs.Entry.{neighborKey}

@@ -4,7 +4,7 @@ use Prim.Native.Nat.{ℕ, _≤_}
 use borrow.Author.Needs.{needs}
 use borrow.Author.Tests.{not-true, not-false}
 use mathlib.Core.Option.{Option}
-use mathlib.Core.Path.{_≡_, sym, ap, _∙_, subst}
+use mathlib.Core.Path.{sym, ap, _∙_, subst}
 use Rattle.flat_map.proofs.Ordered.{lookup-key}
 use Rattle.neighbor_table.proofs.Rows.{table-view, found-none, found-some, room-for}
 use Rattle.neighbor_table.specs.Entry.{neighborKey}

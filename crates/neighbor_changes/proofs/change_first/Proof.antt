@@ -4,7 +4,7 @@ use Prim.Native.Nat.{ℕ, _≤_}
 use borrow.Author.Needs.{needs}
 use borrow.Author.Tests.{not-true, not-false}
 use mathlib.Core.Option.{Option}
-use mathlib.Core.Path.{_≡_, sym, ap, _∙_, subst}
+use mathlib.Core.Path.{sym, ap, _∙_, subst}
 use Rattle.flat_map.proofs.Filter.{first-lookup}
 use Rattle.flat_map.proofs.Table.{fit}
 use Rattle.neighbor_queries.specs.Filter.{fits}

@@ -3,16 +3,14 @@
 use Prim.Native.Nat.{_≤_, _-_}
 use borrow.Author.Needs.{needs}
 use lib.ListN.{length, length-set}
-use mathlib.Core.Path.{_≡_, refl, sym, ap, _∙_}
+use mathlib.Core.Path.{_≡_, refl, sym, _∙_}
 use native.Mathlib.Omega.{arith}
 use Rattle.flat_map.proofs.Rows.{map-step, map-end}
 use Rattle.flat_map.proofs.Shift.{unmapped}
 use Rattle.flat_map.proofs.Table.{changed}
 use Rattle.flat_map.specs.Rows.{mapFrom}
-use Rattle.flat_map.specs.Table.{Holds}
 use Rattle.neighbor_table.proofs.Rows.{as-table}
 use Rattle.neighbor_table.specs.Entry.{neighborKey, blankNeighbor}
-use Rattle.neighbor_table.specs.Table as table
 use Rattle.neighbor_changes.proofs.Kept.{forgiven-key}
 use Rattle.neighbor_changes.specs.Change.{forgiven}
 use Rattle.neighbor_changes.proofs.forgive_all.Statement.{statement}

@@ -1,9 +1,9 @@
 -- The rows passed do not fit, and the rest, swept now, gives the rows that the whole sweep leaves.
 -- The measure is the rows left, of which one goes or is passed at each turn.
-use Prim.Native.Nat.{_-_, _<_}
+use Prim.Native.Nat.{_-_}
 use borrow.Author.Needs.{needs}
 use mathlib.Core.Bool.{not}
-use mathlib.Core.Path.{_≡_, refl, sym, ap, _∙_, subst}
+use mathlib.Core.Path.{sym, ap, _∙_, subst}
 use native.Mathlib.Omega.{arith}
 use Rattle.flat_map.proofs.Table.{Sweep, sweep-start, sweep-kept, sweep-removed, sweep-end}
 use Rattle.neighbor_queries.specs.Filter.{fits}

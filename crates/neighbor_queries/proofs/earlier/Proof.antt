@@ -1,9 +1,8 @@
 -- The lesser of the two, case by case.
 -- Assumes nothing.
-use Prim.Native.Nat.{min}
 use borrow.Author.Needs.{needs}
 use mathlib.Core.Option.{some}
-use mathlib.Core.Path.{_≡_, sym, ap, _∙_}
+use mathlib.Core.Path.{sym, ap, _∙_}
 use native.Mathlib.Omega.{arith}
 use Rattle.standard.specs.Rows.{lesser}
 use Rattle.neighbor_queries.specs.Lists.{moment, timeOf}

@@ -3,7 +3,7 @@
 use Prim.Native.Nat.{_<_}
 use borrow.Author.Needs.{needs}
 use mathlib.Core.Option.{some}
-use mathlib.Core.Path.{_≡_, sym, ap, _∙_}
+use mathlib.Core.Path.{sym, ap, _∙_}
 use native.Mathlib.Omega.{arith}
 use Rattle.flat_map.proofs.Table.{found-row, found-within, missing-row}
 use Rattle.neighbor_table.proofs.Rows.{read}

@@ -1,7 +1,7 @@
 -- The entry at the key's place shifted out is `remove` on the rows; a key that is missing leaves them.
 -- Assumes nothing.
 use Prim.Native.Nat.{_<_}
-use mathlib.Core.Path.{_≡_, sym, ap, _∙_}
+use mathlib.Core.Path.{sym, ap, _∙_}
 use native.Mathlib.Omega.{arith}
 use borrow.Author.Needs.{needs}
 use Rattle.flat_map.proofs.Table.{found-within, missing-row, removed, remove-absent}

@@ -13,7 +13,6 @@ use Rattle.types.specs.declared.Eui64.{Eui64}
 use Rattle.flat_map.proofs.Query.{next-given, none-given}
 use Rattle.parent_annce.proofs.Steps.{Settles, step-within, step-packed, ready}
 use Rattle.parent_annce.specs.Settle.{start, settleAll, settleOne, packed, stepped, settled}
-use Rattle.parent_annce.specs.declared.Settled.{Settled}
 use Rattle.parent_annce.proofs.settle.Statement.{statement}
 use Rattle.parent_annce.proofs.settle.Tie as tie
 

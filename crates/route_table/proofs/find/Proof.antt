@@ -1,12 +1,9 @@
 -- A key found among the keys names the row at its place; a key missing there has no row.
 -- Assumes nothing.
 use Prim.Native.Nat.{_<_}
-use mathlib.Core.Path.{_≡_, sym, ap, _∙_}
+use mathlib.Core.Path.{sym, ap, _∙_}
 use native.Mathlib.Omega.{arith}
 use borrow.Author.Needs.{needs}
-use lib.ListN.{take}
-use Rattle.flat_map.specs.declared.Place.the-variants.{Found, Missing}
-use Rattle.flat_map.specs.Seek.{placeOf}
 use Rattle.flat_map.proofs.Table.{found-row, found-within, missing-row}
 use Rattle.standard.specs.Route.{routeKey}
 use Rattle.route_table.specs.Table.{blankRoute, looked}

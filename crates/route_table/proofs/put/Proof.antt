@@ -1,11 +1,9 @@
 -- Over the entry of its key, or shifted in where the key is missing: both are `put` on the rows.
 -- Assumes nothing.
 use Prim.Native.Nat.{_<_}
-use mathlib.Core.Path.{_≡_, sym, ap, _∙_}
+use mathlib.Core.Path.{sym, _∙_}
 use native.Mathlib.Omega.{arith}
 use borrow.Author.Needs.{needs}
-use Rattle.flat_map.specs.declared.Place.the-variants.{Found, Missing}
-use Rattle.flat_map.specs.Seek.{placeOf}
 use Rattle.flat_map.proofs.Ordered.{count-with-missing}
 use Rattle.flat_map.proofs.Table.{rows-length, found-within, missing-row, replaced, inserted}
 use Rattle.standard.specs.Ordered as ordered

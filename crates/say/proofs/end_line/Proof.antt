@@ -1,6 +1,5 @@
 -- The word `end`, and no number.
 -- Assumes nothing.
-use Prim.Native.Nat.{_-_}
 use Rattle.words.specs.Text.{bytes}
 use borrow.Author.Needs.{needs}
 use Rattle.say.proofs.end_line.Statement.{statement}

@@ -1,6 +1,5 @@
 -- The byte has a place or has none.
 -- Assumes nothing.
-use Prim.Native.Nat.{_-_}
 use Rattle.say.proofs.Pages.{placed, left-out}
 use borrow.Author.Needs.{needs}
 use Rattle.say.proofs.put.Statement.{statement}

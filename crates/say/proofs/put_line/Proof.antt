@@ -1,7 +1,6 @@
 -- The word, the numbers and the line feed, one after the other.
 -- Assumes nothing.
 use mathlib.Core.Path.{ap, _∙_}
-use Prim.Native.Nat.{_-_}
 use lib.ListN.{drop, take}
 use Rattle.say.specs.Page.{Page, page, putByte, puts}
 use Rattle.say.specs.Text.{spaced}

@@ -1,7 +1,6 @@
 -- A space, and the number after it.
 -- Assumes nothing.
 use mathlib.Core.Path.{ap, _∙_}
-use Prim.Native.Nat.{_-_}
 use Rattle.say.specs.Page.{Page, page, puts}
 use Rattle.say.specs.Text.{decimal}
 use Rattle.say.proofs.Pages.{number-put}

@@ -1,6 +1,5 @@
 -- The first number is the word's, and the others follow.
 -- Assumes nothing.
-use Prim.Native.Nat.{_-_}
 use Rattle.say.specs.Text.{tableLine}
 use borrow.Author.Needs.{needs}
 use Rattle.say.proofs.table_line.Statement.{statement}

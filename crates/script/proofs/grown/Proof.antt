@@ -7,7 +7,7 @@ use lib.Dec.{leb}
 use lib.ListN.{getD}
 use borrow.Author.Tests.{leb-true, not-true, not-false}
 use Rattle.script.specs.Reading.{tenfold}
-use Rattle.script.proofs.Steps.{room, no-place, no-room, grows}
+use Rattle.script.proofs.Steps.{no-place, no-room, grows}
 use Rattle.script.specs.declared.Scan.{Scan}
 use borrow.Author.Needs.{needs}
 use native.Mathlib.Omega.{arith}

@@ -1,6 +1,5 @@
 -- The callees say it.
 -- Assumes nothing.
-use Prim.Native.Nat.{_-_}
 use borrow.Author.Needs.{needs}
 use Rattle.store_words.proofs.reset.Statement.{statement}
 use Rattle.store_words.proofs.reset.Tie as tie

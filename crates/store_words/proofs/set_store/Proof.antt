@@ -1,6 +1,5 @@
 -- The place is one of the store, or the store stays.
 -- Assumes nothing.
-use Prim.Native.Nat.{_-_}
 use lib.ListN.{length}
 use borrow.Author.Tests.{lt-ltb, le-ltb}
 use Rattle.store_words.specs.Turns.{setTurn}

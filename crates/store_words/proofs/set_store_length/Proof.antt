@@ -1,6 +1,5 @@
 -- The one test is the definition's.
 -- Assumes nothing.
-use Prim.Native.Nat.{_-_}
 use lib.ListN.{length}
 use borrow.Author.Tests.{le-leb, lt-leb}
 use Rattle.store_words.specs.Turns.{lengthTurn}

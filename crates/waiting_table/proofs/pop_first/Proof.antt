@@ -1,7 +1,7 @@
 -- The row at place 0 shifted out is the first row taken off; a table with no row is left.
 -- Assumes nothing.
 use borrow.Author.Needs.{needs}
-use mathlib.Core.Path.{_≡_, sym, ap, _∙_}
+use mathlib.Core.Path.{sym, ap, _∙_}
 use native.Mathlib.Omega.{arith}
 use Rattle.flat_map.proofs.Lists.{popped, popped-none}
 use Rattle.flat_map.proofs.Table.{rows-length, taken-out}

@@ -1,6 +1,5 @@
 -- The one test is the definition's.
 -- Assumes nothing.
-use Prim.Native.Nat.{_-_}
 use borrow.Author.Tests.{lt-ltb, le-ltb}
 use Rattle.words.specs.Fitting.{ahead}
 use borrow.Author.Needs.{needs}

@@ -1,6 +1,5 @@
 -- The table of the program is the table of the definition.
 -- Assumes nothing.
-use Prim.Native.Nat.{_-_}
 use Rattle.words.specs.Table.{table, routingWords, neighbourWords, added, entry}
 use Rattle.words.specs.Text.{bytes}
 use borrow.Author.Needs.{needs}

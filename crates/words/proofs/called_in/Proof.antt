@@ -1,7 +1,6 @@
 -- The word is found or not, and its numbers fit or not.
 -- Assumes nothing.
 use mathlib.Core.Path.{sym, _∙_}
-use Prim.Native.Nat.{_-_}
 use Rattle.words.specs.Words.{seek, calledIn}
 use borrow.Author.Needs.{needs}
 use Rattle.words.proofs.called_in.Statement.{statement}

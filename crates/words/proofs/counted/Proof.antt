@@ -1,6 +1,5 @@
 -- The one test is the definition's.
 -- Assumes nothing.
-use Prim.Native.Nat.{_-_}
 use borrow.Author.Needs.{needs}
 use Rattle.words.proofs.counted.Statement.{statement}
 use Rattle.words.proofs.counted.Tie as tie

@@ -2,7 +2,6 @@
 -- Assumes nothing.
 use mathlib.Core.Path.{sym}
 use mathlib.Core.List.{[]}
-use Prim.Native.Nat.{_-_}
 use Rattle.words.proofs.Search.{past-none, space-here, no-space}
 use borrow.Author.Needs.{needs}
 use native.Mathlib.Omega.{arith}

@@ -1,7 +1,6 @@
 -- The byte at the place, where there is one.
 -- Assumes nothing.
 use mathlib.Core.Path.{sym}
-use Prim.Native.Nat.{_-_}
 use Rattle.words.proofs.Fit.{end-here, end-none}
 use borrow.Author.Needs.{needs}
 use native.Mathlib.Omega.{arith}

@@ -1,6 +1,5 @@
 -- A list of triples has at most 80, so the product fits.
 -- Assumes nothing.
-use Prim.Native.Nat.{_-_}
 use borrow.Author.Tests.{eq-eqb, ne-eqb}
 use Rattle.words.specs.Shape.{items}
 use Rattle.words.proofs.Fit.{few}

@@ -1,6 +1,5 @@
 -- The tests are the definition's.
 -- Assumes nothing.
-use Prim.Native.Nat.{_-_}
 use borrow.Author.Tests.{lt-ltb, le-ltb, eq-eqb, ne-eqb}
 use Rattle.words.specs.Shape.{passesMode}
 use Rattle.words.proofs.passes_mode.Statement.{statement}

@@ -1,6 +1,5 @@
 -- Each arm hands over what its function says.
 -- Assumes nothing.
-use Prim.Native.Nat.{_-_}
 use borrow.Author.Needs.{needs}
 use Rattle.words.proofs.take.Statement.{statement}
 use Rattle.words.proofs.take.Tie as tie

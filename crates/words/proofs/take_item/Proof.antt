@@ -1,7 +1,6 @@
 -- The list has one value less, and the rest is as it was.
 -- Assumes nothing.
 use mathlib.Core.Path.{refl}
-use Prim.Native.Nat.{_-_}
 use Rattle.words.specs.Shape.{within, item}
 use Rattle.words.proofs.Fit.{item-taken}
 use borrow.Author.Needs.{needs}

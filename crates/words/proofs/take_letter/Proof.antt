@@ -1,7 +1,6 @@
 -- The letter allows the value and is passed, or nothing fits any more.
 -- Assumes nothing.
 use mathlib.Core.Path.{refl, sym, _∙_}
-use Prim.Native.Nat.{_-_}
 use borrow.Author.Tests.{not-true, not-false}
 use Rattle.words.specs.Shape.{within, passes, items}
 use Rattle.words.specs.Fitting.{ahead}

@@ -1,6 +1,5 @@
 -- The one test is the definition's.
 -- Assumes nothing.
-use Prim.Native.Nat.{_-_}
 use Rattle.words.specs.Words.{past, tried}
 use borrow.Author.Needs.{needs}
 use Rattle.words.proofs.tried.Statement.{statement}

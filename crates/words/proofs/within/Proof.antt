@@ -1,6 +1,5 @@
 -- The tests are the definition's.
 -- Assumes nothing.
-use Prim.Native.Nat.{_-_}
 use Rattle.words.specs.Shape.{most, within}
 use borrow.Author.Needs.{needs}
 use Rattle.words.proofs.within.Statement.{statement}

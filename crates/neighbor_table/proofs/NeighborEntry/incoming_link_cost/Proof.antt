@@ -1,7 +1,7 @@
 -- The cost goes by the quality, case by case.
 -- Assumes nothing.
 use borrow.Author.Needs.{needs}
-use mathlib.Core.Path.{_≡_, sym, ap, _∙_}
+use mathlib.Core.Path.{sym, ap, _∙_}
 use Rattle.neighbor_table.specs.Entry.{costOf}
 use Rattle.neighbor_table.proofs.NeighborEntry.incoming_link_cost.Statement.{statement}
 use Rattle.neighbor_table.proofs.NeighborEntry.incoming_link_cost.Tie as tie

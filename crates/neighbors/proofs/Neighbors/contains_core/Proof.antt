@@ -1,7 +1,7 @@
 -- Whether the look-up found one.
 -- Assumes nothing.
 use borrow.Author.Needs.{needs}
-use mathlib.Core.Path.{ap, _∙_}
+use mathlib.Core.Path.{ap}
 use Rattle.neighbor_table.specs.declared.NeighborLookup.{NeighborLookup}
 use Rattle.neighbors.specs.declared.Truth.the-variants.{Is}
 use Rattle.neighbors.proofs.Neighbors.contains_core.Statement.{statement}

@@ -1,6 +1,5 @@
 -- The test of the form is the computed one, so both tests are the definition's own.
 -- Assumes nothing.
-use mathlib.Core.Path.{_≡_}
 use borrow.Author.Needs.{needs}
 use Rattle.ring_buffer.proofs.Fresh.{computed}
 use Rattle.ring_buffer.proofs.RingBuffer.is_fresh.Statement.{statement}

@@ -1,9 +1,6 @@
 -- By the answer, as the definition goes.
 -- Assumes nothing.
-use mathlib.Core.Path.{sym, ap, _∙_}
 use borrow.Author.Needs.{needs}
-use Rattle.route_begin.specs.declared.BeginAnswer.{BeginAnswer}
-use Rattle.routing.specs.Search.{begunBy}
 use Rattle.routing.proofs.Routing.after_begin.Statement.{statement}
 use Rattle.routing.proofs.Routing.after_begin.Tie as tie
 

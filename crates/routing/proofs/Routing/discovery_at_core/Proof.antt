@@ -1,6 +1,5 @@
 -- The table's own answer is the state's.
 -- Assumes nothing.
-use borrow.Author.Needs.{needs}
 use Rattle.routing.proofs.Routing.discovery_at_core.Statement.{statement}
 use Rattle.routing.proofs.Routing.discovery_at_core.Tie as tie
 
