@@ -1,7 +1,7 @@
 -- Every call leaves a well-formed state well formed: a refusal hands the state back, and any other outcome puts back
 -- rows that fit, since each rule keeps the order and room was tested.
 use Prim.Native.Nat.{ℕ}
-use mathlib.Core.Bool.{Bool, true, false, cond}
+use mathlib.Core.Bool.{true}
 use mathlib.Core.Option.{Option, none, some}
 use mathlib.Core.Path.{_≡_, refl}
 use borrow.Author.Tests.{leb-true}
@@ -42,12 +42,8 @@ use Rattle.routing.specs.declared.RouteRequestOutcome.{RouteRequestOutco
 use Rattle.routing.specs.declared.BeginOutcome.{BeginOutcome}
 use Rattle.routing.specs.Search.{acceptRouteReply, acceptRouteRequest, begunAs, beginDiscovery, beginManyToOneAdvertisement, nextId}
 use Rattle.routing.specs.State.{WellFormed, wellFormed, searchOf, withSearch}
+use Rattle.routing.proofs.Picked.{by-test}
 use Rattle.routing.proofs.State.{search-formed, put-back}
-
--- an outcome by a test: of both kinds it is so
-pub by-test : {A : Type 0} (P : A → Type 0) (b : Bool) (x y : A) → (b ≡ true → P x) → P y → P (cond b x y)
-by-test P true x y p q = p refl
-by-test P false x y p q = q
 
 -- rows in order that were tested for room fit
 fits-if : (t : Tables) → InOrder t → leb (length (t .routes)) 64 ≡ true → leb (length (t .discoveries)) 32 ≡ true → search.Fits t

@@ -26,16 +26,12 @@ use Rattle.routing.specs.declared.ToldAnswer.the-variants as told
 use Rattle.routing.specs.declared.ToldOutcome.{ToldOutcome}
 use Rattle.routing.specs.Records.{withRecords, storeRouteRecord, storeAfterRecord, removeRouteRecord, storeAfterRemoval}
 use Rattle.routing.specs.State.{WellFormed, wellFormed}
+use Rattle.routing.proofs.Picked.{both-by}
 
 -- a well-formed state and a store that agrees with it
 pub record Held (s : Routing) (store : List ℕ) : Type 0 where
   pub formed : WellFormed s
   pub agreed : Agrees (s .«route_record_table») store
-
--- an outcome and a store by the same test
-both-by : {A B : Type 0} (P : A → B → Type 0) (b : Bool) (x y : A) (u v : B) → (b ≡ true → P x u) → (b ≡ false → P y v) → P (cond b x y) (cond b u v)
-both-by P true x y u v p q = p refl
-both-by P false x y u v p q = q refl
 
 module _ (s : Routing) (store : List ℕ) (h : Held s store) where
   together : Together (s .«route_record_table») store

@@ -1,6 +1,5 @@
 -- The core form keeps a well-formed state and a store that agrees with it so: there it is the exported form, whose next state and store are so.
 use Prim.Native.Nat.{ℕ, _≤_}
-use mathlib.Core.Bool.{Bool, true, false, cond}
 use mathlib.Core.List.{List}
 use mathlib.Core.Path.{_≡_, sym, subst}
 use borrow.Author.Tests.{le-ltb}
@@ -14,6 +13,7 @@ use Rattle.routing.specs.declared.Routing.{Routing}
 use Rattle.routing.specs.declared.RecordOutcome.{RecordOutcome}
 use Rattle.routing.specs.Records.{storeRouteRecord, storeAfterRecord, storeRouteRecordCore, storeAfterRecordCore}
 use Rattle.routing.specs.State.{WellFormed, wellFormed}
+use Rattle.routing.proofs.Picked.{both-behind, both-behind-not}
 use Rattle.routing.proofs.State.{state-told}
 use Rattle.routing.proofs.KeptRecords.{Held, store-route-record-kept}
 
@@ -21,20 +21,13 @@ use Rattle.routing.proofs.KeptRecords.{Held, store-route-record-kept}
 abbrev Kept : RecordOutcome → List ℕ → Type 0
 Kept o after = Held (o .state) after
 
--- what holds of the outcome and the store of a test that is passed holds of those behind it
-behind : (b : Bool) (x y : RecordOutcome) (u v : List ℕ) → b ≡ true → Kept (cond b x y) (cond b u v) → Kept x u
-behind b x y u v t p = subst (λ (c : Bool). Kept (cond c x y) (cond c u v)) t p
-
-behind-not : (b : Bool) (x y : RecordOutcome) (u v : List ℕ) → b ≡ false → Kept (cond b x y) (cond b u v) → Kept y v
-behind-not b x y u v t p = subst (λ (c : Bool). Kept (cond c x y) (cond c u v)) t p
-
 module _ (s : Routing) (store : List ℕ) (w : WellFormed s) (a : Agrees (s .«route_record_table») store) where
   held : (source : Nwk) (relays : RelayList) → length (relays .addresses) ≡ 32 → relays .count ≤ 32 → Kept (storeRouteRecordCore s source relays store) (storeAfterRecordCore s source relays store)
   unfolding storeRouteRecord storeAfterRecord
   held source relays long short =
-      behind-not (ltb 32 (relays .count)) _ _ _ _ (le-ltb 32 (relays .count) short)
-      (behind (agrees (s .«route_record_table») store) _ _ _ _ (agrees-told _ _ .flag a)
-      (behind (wellFormed s) _ _ _ _ (state-told s .flag w) (store-route-record-kept s store (record { formed = w; agreed = a }) source relays long)))
+      both-behind-not Kept (ltb 32 (relays .count)) _ _ _ _ (le-ltb 32 (relays .count) short)
+      (both-behind Kept (agrees (s .«route_record_table») store) _ _ _ _ (agrees-told _ _ .flag a)
+      (both-behind Kept (wellFormed s) _ _ _ _ (state-told s .flag w) (store-route-record-kept s store (record { formed = w; agreed = a }) source relays long)))
 
   pub record-core-kept : (source : Nwk) (relays : RelayList) → length (relays .addresses) ≡ 32 → relays .count ≤ 32 → (o : RecordOutcome) (after : List ℕ)
       → o ≡ storeRouteRecordCore s source relays store → after ≡ storeAfterRecordCore s source relays store

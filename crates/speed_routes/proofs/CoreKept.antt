@@ -1,7 +1,7 @@
 -- The core forms keep a well-formed state so: there each is the exported form, whose next state is well formed.
 use Prim.Native.Nat.{ℕ, _+_, _%_}
-use mathlib.Core.Bool.{Bool, true, cond}
-use mathlib.Core.Path.{_≡_, subst}
+use mathlib.Core.Bool.{true}
+use mathlib.Core.Path.{_≡_}
 use Rattle.types.specs.declared.Nwk.{Nwk}
 use Rattle.standard.specs.declared.ManyToOne.{ManyToOne}
 use Rattle.standard.specs.Reply.{reply}
@@ -15,12 +15,9 @@ use Rattle.routing.specs.declared.RouteRequestOutcome.{RouteRequestOutcome}
 use Rattle.routing.specs.declared.BeginOutcome.{BeginOutcome}
 use Rattle.routing.specs.Search.{replied, requestAnswered, begunAs, acceptRouteReply, acceptRouteRequest, beginDiscovery}
 use Rattle.routing.specs.State.{WellFormed, wellFormed, searchOf}
+use Rattle.routing.proofs.Picked.{behind}
 use Rattle.routing.proofs.State.{state-told}
 use Rattle.routing.proofs.Kept.{reply-kept, request-kept, begin-kept}
-
--- what holds of the answer of a test that is passed holds of the answer behind it
-behind : {A : Type 0} (P : A → Type 0) (b : Bool) (x y : A) → b ≡ true → P (cond b x y) → P x
-behind P b x y t p = subst (λ (c : Bool). P (cond c x y)) t p
 
 module _ (s : Routing) (w : WellFormed s) where
   good : wellFormed s ≡ true
