@@ -163,8 +163,8 @@ pub fn damage(world: World, number: u64, args: &[u64]) -> Reply
     world::asked(world, answer)
 }
 
-// The group of a number.
-fn group(number: u64) -> u64
+// The group of a number, 0 for what is no call here.
+pub fn group(number: u64) -> u64
     ensures { λ r. ⌜ r ≡ groupOf number ⌝ }
 {
     if number < 87 {

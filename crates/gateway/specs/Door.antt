@@ -1,17 +1,18 @@
 -- What the door's functions answer and write. A refusal's number is that of document 01: 8 for a bad length, 10 for a damaged image.
 -- Assumes nothing.
 use Prim.Native.Nat.{ℕ}
-use mathlib.Core.Bool.{cond}
+use mathlib.Core.Bool.{Bool, cond, not, _&&_}
 use mathlib.Core.List.{List, [], _∷_}
 use lib.Dec.{eqb, ltb}
 use lib.ListN.{length, replicate}
 use lib.Seq.{sets}
 use Rattle.types.specs.declared.Refusal.the-variants.{StateIllFormed}
 use Rattle.numbers.specs.declared.Answer.{Answer}
-use Rattle.numbers.specs.Said.{spoken, refusedBy}
+use Rattle.numbers.specs.Said.{spoken, refusedBy, bad}
 use Rattle.world.specs.declared.World.{World}
 use Rattle.world.specs.Worlds.{freshWorld}
-use Rattle.calls.specs.Groups.{callOf, storeOf}
+use Rattle.calls.specs.Groups.{groupOf, callOf, storeOf}
+use Rattle.words.specs.Words.{shaped}
 use Rattle.image.specs.Good.{goodImage}
 use Rattle.image.specs.Image.{worldIn, storeIn, worldNumbers}
 
@@ -33,12 +34,23 @@ madeAnswer w n args xs = callOf w n args (storeIn xs) .answer
 unfoldable pub madeImage : World → ℕ → List ℕ → List ℕ → List ℕ
 madeImage w n args xs = imageWith (callOf w n args (storeIn xs) .world) (storeOf w n args (storeIn xs)) xs
 
+-- numbers that are a call here: of the shape of their call's, which is none that the program of scripts answers itself
+unfoldable pub isCall : ℕ → List ℕ → Bool
+isCall n args = shaped n args && not (eqb (groupOf n) 0)
+
 -- a call on an image: a damaged one is refused, and stays
+unfoldable pub calledAnswer : ℕ → List ℕ → List ℕ → Answer
+calledAnswer n args xs = cond (goodImage xs) (madeAnswer (worldIn xs) n args xs) (spoken (refusedBy StateIllFormed))
+
+unfoldable pub calledImage : ℕ → List ℕ → List ℕ → List ℕ
+calledImage n args xs = cond (goodImage xs) (madeImage (worldIn xs) n args xs) xs
+
+-- numbers on an image: those that are no call are bad whatever the image is, and it stays
 unfoldable pub answerOf : ℕ → List ℕ → List ℕ → Answer
-answerOf n args xs = cond (goodImage xs) (madeAnswer (worldIn xs) n args xs) (spoken (refusedBy StateIllFormed))
+answerOf n args xs = cond (isCall n args) (calledAnswer n args xs) (spoken bad)
 
 unfoldable pub imageAfter : ℕ → List ℕ → List ℕ → List ℕ
-imageAfter n args xs = cond (goodImage xs) (madeImage (worldIn xs) n args xs) xs
+imageAfter n args xs = cond (isCall n args) (calledImage n args xs) xs
 
 -- an answer as C reads it: its kind, its count, and 256 values, of which those after the count mean nothing
 unfoldable pub answerWritten : Answer → List ℕ → List ℕ

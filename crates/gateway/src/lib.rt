@@ -3,7 +3,7 @@ use numbers::Answer;
 use types::Refusal;
 use world::World;
 ghost use mathlib.Core.Path.{_≡_};
-ghost use Rattle.gateway.specs.Door.{imageWith, newStatus, newImage, madeAnswer, madeImage, answerOf, imageAfter, answerWritten, callStatus, callImage, callAnswer};
+ghost use Rattle.gateway.specs.Door.{imageWith, newStatus, newImage, madeAnswer, madeImage, isCall, calledAnswer, calledImage, answerOf, imageAfter, answerWritten, callStatus, callImage, callAnswer};
 
 // How many numbers an image has.
 #[no_mangle]
@@ -57,10 +57,18 @@ fn made(world: World, number: u64, args: &[u64], image: &mut [u64]) -> Answer
     answer
 }
 
+// Whether numbers are a call here.
+fn is_call(number: u64, args: &[u64]) -> bool
+    ensures { λ r. ⌜ r ≡ isCall number (now (args .entry)) ⌝ }
+{
+    let known = calls::group(number) != 0;
+    words::shaped(number, args) & known
+}
+
 // A call on an image; a damaged one is refused with 10, and stays.
-fn answered(number: u64, args: &[u64], image: &mut [u64]) -> Answer
-    ensures { λ r. ⌜ r ≡ answerOf number (now (args .entry)) (now (image .entry)) ⌝ }
-    ensures { λ _. ⌜ now (image .exit) ≡ imageAfter number (now (args .entry)) (now (image .entry)) ⌝ }
+fn called(number: u64, args: &[u64], image: &mut [u64]) -> Answer
+    ensures { λ r. ⌜ r ≡ calledAnswer number (now (args .entry)) (now (image .entry)) ⌝ }
+    ensures { λ _. ⌜ now (image .exit) ≡ calledImage number (now (args .entry)) (now (image .entry)) ⌝ }
 {
     let read = image::world_of(image);
     let world = read.world;
@@ -68,6 +76,17 @@ fn answered(number: u64, args: &[u64], image: &mut [u64]) -> Answer
         return made(world, number, args, image);
     }
     numbers::refused(Refusal::StateIllFormed)
+}
+
+// Numbers on an image; those that are no call are bad, and the image stays.
+fn answered(number: u64, args: &[u64], image: &mut [u64]) -> Answer
+    ensures { λ r. ⌜ r ≡ answerOf number (now (args .entry)) (now (image .entry)) ⌝ }
+    ensures { λ _. ⌜ now (image .exit) ≡ imageAfter number (now (args .entry)) (now (image .entry)) ⌝ }
+{
+    if is_call(number, args) {
+        return called(number, args, image);
+    }
+    numbers::no_call()
 }
 
 // An answer's kind, count and values, one after another.

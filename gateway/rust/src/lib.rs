@@ -1,9 +1,29 @@
 //! Typed calls on the proved route tables. The state is an image of numbers that this crate keeps and lends for each call.
+//!
+//! Every call answers a value of its own type, or a [`Refusal`]. A refused call leaves the state as it was.
+//! A list has at most 80 elements; with more, a call is [`Refusal::Bad`].
 
-const IMAGE: usize = 5450;
+#![warn(missing_docs)]
+
+mod answer;
+mod decision;
+mod refusal;
+mod values;
+
+pub use answer::{Disposition, ManyToOne, ReplyAnswer, RequestAnswer, Status, Update, Way};
+pub use decision::{Decision, Discover, FrameType, Header, Hop, Mode, Policy, SourceRoute};
+pub use refusal::Refusal;
+use values::{push_addresses, Values};
+
+/// How many numbers an image has.
+pub const IMAGE: usize = 5450;
+
+/// How many numbers an answer needs.
 const ANSWER: usize = 258;
 
 extern "C" {
+    fn warpteasel_image_length() -> usize;
+    fn warpteasel_answer_length() -> usize;
     fn warpteasel_new(image: *mut u64, image_length: usize) -> u64;
     fn warpteasel_call(
         image: *mut u64,
@@ -16,59 +36,37 @@ extern "C" {
     ) -> u64;
 }
 
-/// Why a call is refused.
-#[derive(Clone, Copy, Debug, PartialEq, Eq)]
-pub enum Refusal {
-    RouteTableFull,
-    DiscoveryTableFull,
-    RecordTableFull,
-    NeighborTableFull,
-    TimePastEnd,
-    UnknownNextHop,
-    EmptySourceRoute,
-    ListTooLong,
-    StoreDisagrees,
-    StateIllFormed,
-    LinkCostTooHigh,
-    /// The numbers are no call.
-    NoCall,
+/// The lengths that the library itself gives: of an image, and of an answer.
+pub fn lengths() -> (usize, usize) {
+    // SAFETY: neither function takes anything.
+    unsafe { (warpteasel_image_length(), warpteasel_answer_length()) }
 }
 
-fn refusal(number: u64) -> Refusal {
-    match number {
-        1 => Refusal::RouteTableFull,
-        2 => Refusal::DiscoveryTableFull,
-        3 => Refusal::RecordTableFull,
-        4 => Refusal::NeighborTableFull,
-        5 => Refusal::TimePastEnd,
-        6 => Refusal::UnknownNextHop,
-        7 => Refusal::EmptySourceRoute,
-        8 => Refusal::ListTooLong,
-        9 => Refusal::StoreDisagrees,
-        11 => Refusal::LinkCostTooHigh,
-        _ => Refusal::StateIllFormed,
+/// A new state written into numbers of the caller's; refused with 8 where they are not [`IMAGE`] many.
+pub fn new_image(image: &mut [u64]) -> Result<(), Refusal> {
+    // SAFETY: the pointer and the length are those of a live slice.
+    match unsafe { warpteasel_new(image.as_mut_ptr(), image.len()) } {
+        0 => Ok(()),
+        status => Err(Refusal::of(status)),
     }
 }
 
-/// How a route stands.
-#[derive(Clone, Copy, Debug, PartialEq, Eq)]
-pub enum Status {
-    Active,
-    DiscoveryUnderway,
-    DiscoveryFailed,
-    Inactive,
+/// The values of an answer as the library writes it: a kind, a count, and the values.
+fn values(answer: &[u64]) -> Result<&[u64], Refusal> {
+    let [kind, count, all @ ..] = answer else {
+        return Err(Refusal::Unknown);
+    };
+    let values = usize::try_from(*count).ok().and_then(|n| all.get(..n)).ok_or(Refusal::Unknown)?;
+    match (kind, values) {
+        (0, _) => Ok(values),
+        (1, [number]) => Err(Refusal::of(*number)),
+        (2, []) => Err(Refusal::Bad),
+        _ => Err(Refusal::Unknown),
+    }
 }
 
-/// The many-to-one field of a route request.
-#[derive(Clone, Copy, Debug, PartialEq, Eq)]
-pub enum ManyToOne {
-    NotManyToOne,
-    SenderSupportsRouteRecordTable,
-    SenderDoesntSupportRouteRecordTable,
-    Reserved,
-}
-
-/// The routing state and the neighbours.
+/// The routing state, the neighbours and the relay store.
+#[derive(Clone, Debug, PartialEq, Eq)]
 pub struct State {
     image: Vec<u64>,
 }
@@ -80,15 +78,15 @@ impl Default for State {
 }
 
 impl State {
-    /// A fresh state.
+    /// A fresh state: no route, no search, no record, no neighbour.
     pub fn new() -> Self {
         let mut image = vec![0; IMAGE];
-        // SAFETY: the pointer and the length are those of a live vector.
-        unsafe { warpteasel_new(image.as_mut_ptr(), image.len()) };
+        // A wrong length would leave zeros, and each call would then be refused with 10.
+        let _ = new_image(&mut image);
         State { image }
     }
 
-    /// A state from an image that was kept; it is judged at each call.
+    /// A state from an image that was kept. It is judged at each call: a damaged one, or one of a wrong length, is refused with 10.
     pub fn from_image(image: Vec<u64>) -> Self {
         State { image }
     }
@@ -98,11 +96,11 @@ impl State {
         &self.image
     }
 
-    /// The call of a number, with its values.
+    /// The call of a number with its values, both as docs/REPLAY.md has them, and the values of its answer.
     pub fn call(&mut self, number: u64, args: &[u64]) -> Result<Vec<u64>, Refusal> {
         let mut answer = [0u64; ANSWER];
         // SAFETY: each pointer and length are those of a live slice, and none overlaps another.
-        unsafe {
+        let status = unsafe {
             warpteasel_call(
                 self.image.as_mut_ptr(),
                 self.image.len(),
@@ -113,83 +111,111 @@ impl State {
                 answer.len(),
             )
         };
-        let count = (answer[1] as usize).min(ANSWER - 2);
-        match answer[0] {
-            0 => Ok(answer[2..2 + count].to_vec()),
-            1 => Err(refusal(answer[2])),
-            _ => Err(Refusal::NoCall),
+        match status {
+            0 => values(&answer).map(<[u64]>::to_vec),
+            _ => Err(Refusal::of(status)),
         }
     }
 
-    fn told(&mut self, number: u64, args: &[u64]) -> Result<bool, Refusal> {
-        Ok(self.call(number, args)?.first() == Some(&1))
+    fn read<T>(
+        &mut self,
+        number: u64,
+        args: &[u64],
+        read: impl FnOnce(&mut Values) -> Result<T, Refusal>,
+    ) -> Result<T, Refusal> {
+        let numbers = self.call(number, args)?;
+        let mut v = Values(&numbers);
+        let answer = read(&mut v)?;
+        v.end(answer)
     }
 
     fn done(&mut self, number: u64, args: &[u64]) -> Result<(), Refusal> {
-        self.call(number, args).map(|_| ())
+        self.read(number, args, |_| Ok(()))
     }
 
+    /// Counts a route error; whether the threshold is reached.
     pub fn note_route_error(&mut self, threshold: u8) -> Result<bool, Refusal> {
-        self.told(9, &[threshold.into()])
+        self.read(9, &[threshold.into()], |v| v.flag())
     }
 
+    /// Counts a delivery that failed; whether the threshold is reached.
     pub fn note_delivery_failure(&mut self, threshold: u8) -> Result<bool, Refusal> {
-        self.told(10, &[threshold.into()])
+        self.read(10, &[threshold.into()], |v| v.flag())
     }
 
+    /// Sets both counters to 0.
     pub fn reset_mtorr_triggers(&mut self) -> Result<(), Refusal> {
         self.done(11, &[])
     }
 
     /// How the route to a destination stands, where there is one.
     pub fn route_status(&mut self, destination: u16) -> Result<Option<Status>, Refusal> {
-        let v = self.call(12, &[destination.into()])?;
-        Ok(match v.as_slice() {
-            [1, 0] => Some(Status::Active),
-            [1, 1] => Some(Status::DiscoveryUnderway),
-            [1, 2] => Some(Status::DiscoveryFailed),
-            [1, ..] => Some(Status::Inactive),
-            _ => None,
-        })
+        self.read(12, &[destination.into()], |v| v.option(Status::read))
     }
 
+    /// How many routes there are.
+    pub fn route_count(&mut self) -> Result<u64, Refusal> {
+        self.read(13, &[], |v| v.number())
+    }
+
+    /// The next hop of a route in use.
     pub fn next_hop(&mut self, destination: u16) -> Result<Option<u16>, Refusal> {
-        let v = self.call(15, &[destination.into()])?;
-        Ok(match v.as_slice() {
-            [1, hop] => Some(*hop as u16),
-            _ => None,
-        })
+        self.read(15, &[destination.into()], |v| v.option(|v| v.address()))
     }
 
+    /// Notes that a search for a destination has failed.
     pub fn mark_discovery_failed(&mut self, destination: u16) -> Result<(), Refusal> {
         self.done(16, &[destination.into()])
     }
 
+    /// Counts a use of a route.
     pub fn record_usage(&mut self, destination: u16) -> Result<(), Refusal> {
         self.done(17, &[destination.into()])
     }
 
+    /// Lets the recent uses of all routes fade.
     pub fn decay_activity(&mut self) -> Result<(), Refusal> {
         self.done(18, &[])
     }
 
+    /// Takes the routes by a next hop out of use.
     pub fn invalidate_via(&mut self, next_hop: u16) -> Result<(), Refusal> {
         self.done(19, &[next_hop.into()])
     }
 
+    /// Removes a route; whether there was one.
     pub fn remove_route(&mut self, destination: u16) -> Result<bool, Refusal> {
-        self.told(20, &[destination.into()])
+        self.read(20, &[destination.into()], |v| v.flag())
     }
 
-    /// The values of the answer: the request's id first.
-    pub fn begin_discovery(&mut self, own: u16, destination: u16, now: u64, span: u64) -> Result<Vec<u64>, Refusal> {
-        self.call(29, &[own.into(), destination.into(), now, span])
+    /// Keeps the relays of a route record; whether they change what is known. Refused with 8 for more than 32 relays.
+    pub fn store_route_record(&mut self, source: u16, relays: &[u16]) -> Result<bool, Refusal> {
+        let mut args = vec![source.into()];
+        push_addresses(&mut args, relays);
+        self.read(22, &args, |v| v.flag())
     }
 
-    pub fn begin_many_to_one_advertisement(&mut self, own: u16, now: u64, span: u64) -> Result<Vec<u64>, Refusal> {
-        self.call(30, &[own.into(), now, span])
+    /// The way to a destination; a record of fewer relays than the limit is used.
+    pub fn route_to(&mut self, destination: u16, max_source_route: u8) -> Result<Way, Refusal> {
+        self.read(27, &[destination.into(), max_source_route.into()], Way::read)
     }
 
+    /// The way to a destination, by the usual limit.
+    pub fn route_to_default(&mut self, destination: u16) -> Result<Way, Refusal> {
+        self.read(28, &[destination.into()], Way::read)
+    }
+
+    /// Begins a search for a destination, and answers the request's id. Times are milliseconds.
+    pub fn begin_discovery(&mut self, own: u16, destination: u16, now: u64, span: u64) -> Result<u8, Refusal> {
+        self.read(29, &[own.into(), destination.into(), now, span], |v| v.byte())
+    }
+
+    /// Begins an advertisement of this device as a concentrator, and answers the request's id.
+    pub fn begin_many_to_one_advertisement(&mut self, own: u16, now: u64, span: u64) -> Result<u8, Refusal> {
+        self.read(30, &[own.into(), now, span], |v| v.byte())
+    }
+
+    /// Takes a route request that was heard.
     #[allow(clippy::too_many_arguments)]
     pub fn accept_route_request(
         &mut self,
@@ -201,19 +227,51 @@ impl State {
         many_to_one: ManyToOne,
         now: u64,
         span: u64,
-    ) -> Result<Vec<u64>, Refusal> {
-        self.call(
-            31,
-            &[originator.into(), id.into(), destination.into(), sender.into(), cost.into(), many_to_one as u64, now, span],
-        )
+    ) -> Result<RequestAnswer, Refusal> {
+        let args = [
+            originator.into(),
+            id.into(),
+            destination.into(),
+            sender.into(),
+            cost.into(),
+            many_to_one as u64,
+            now,
+            span,
+        ];
+        self.read(31, &args, RequestAnswer::read)
     }
 
-    pub fn accept_route_reply(&mut self, own: u16, originator: u16, id: u8, responder: u16, sender: u16, cost: u8) -> Result<Vec<u64>, Refusal> {
-        self.call(32, &[own.into(), originator.into(), id.into(), responder.into(), sender.into(), cost.into()])
+    /// Takes a route reply that was heard.
+    pub fn accept_route_reply(
+        &mut self,
+        own: u16,
+        originator: u16,
+        id: u8,
+        responder: u16,
+        sender: u16,
+        cost: u8,
+    ) -> Result<ReplyAnswer, Refusal> {
+        let args = [own.into(), originator.into(), id.into(), responder.into(), sender.into(), cost.into()];
+        self.read(32, &args, ReplyAnswer::read)
     }
 
-    /// The decision on a frame's next hop, by the default policy, from the numbers of the mode and the header.
-    pub fn resolve_default(&mut self, numbers: &[u64]) -> Result<Vec<u64>, Refusal> {
-        self.call(70, numbers)
+    /// Decides on a frame's next hop.
+    pub fn resolve(&mut self, policy: Policy, mode: &Mode, header: &Header) -> Result<Decision, Refusal> {
+        let mut args =
+            vec![policy.is_concentrator.into(), policy.force_route_discovery.into(), policy.max_source_route.into()];
+        mode.push(&mut args);
+        header.push(&mut args);
+        self.read(69, &args, Decision::read)
+    }
+
+    /// Decides on a frame's next hop, by the usual policy.
+    pub fn resolve_default(&mut self, mode: &Mode, header: &Header) -> Result<Decision, Refusal> {
+        let mut args = Vec::new();
+        mode.push(&mut args);
+        header.push(&mut args);
+        self.read(70, &args, Decision::read)
     }
 }
+
+#[cfg(test)]
+mod tests;
