@@ -16,7 +16,7 @@ use base.Fml.{GName, Fml, ftrue, fsep, fat, flft, flent, fres}
 use prog.Wp.{Heap}
 use ghost.Atoms.{Atoms, sem}
 use contract.Monad.{fact}
-use types.Kit.{Given, ‵, raw, _⊛_, some, later, _$_, _∵_, !, qed, by, move, keep, drop, use1, use3, split, join, pick, fsplit, fjoin, fpick, fpack, check, frame, await, updating, show, done}
+use types.Kit.{Given, ‵, raw, _⊛_, some, later, _$_, _∵_, !, qed, by, move, keep, drop, use1, use3, split, join, pick, fsplit, fjoin, fpick, fpack, check, frame, await, updating, now as at-once, show, done}
 use types.Tokens.{lft-new, lft-end}
 use types.SemTy.{Body}
 use denote.Laws.{Is, shows}

@@ -12,7 +12,7 @@ use Rattle.words.specs.declared.Meaning.the-variants.{Call, Bad}
 use Rattle.words.specs.Text.{bytes}
 use Rattle.words.specs.Table.{table, routingWords, neighbourWords, added, entry}
 use Rattle.words.specs.Shape.{most, mostOfOthers, within, passes, passesMode, items, item, fit}
-use Rattle.words.specs.Words.{past, tried, seek, calledIn, called}
+use Rattle.words.specs.Words.{past, tried, seek, calledIn, called, wordNumber}
 
 -- the words by their numbers
 unfoldable pub words : List String
@@ -34,10 +34,6 @@ words =
     "discovery_at" ∷ "record_count" ∷ "record_at" ∷ "set_route_count" ∷ "set_discovery_count" ∷ "set_record_count" ∷
     "set_neighbour_count" ∷ "set_waiting_count" ∷ "set_route_key" ∷ "set_discovery_key" ∷ "set_record_key" ∷
     "set_neighbour_key" ∷ "set_waiting_key" ∷ "set_store" ∷ "set_store_length" ∷ []
-
--- a word's line in the table
-abbrev pub wordNumber : List ℕ → Found
-wordNumber word = seek word 0 true 0 table
 
 unfoldable pub isAt : ℕ → Found → Bool
 isAt n (At m at) = eqb m n

@@ -3,7 +3,7 @@
 use Prim.Native.Nat.{ℕ}
 use Prim.Native.Char.{code}
 use Prim.Native.String.{String, [], _∷_}
-use mathlib.Core.List.{List}
+use mathlib.Core.List.{List, [] as []ᴸ, _∷_ as _∷ᴸ_}
 
 unfoldable pub bytes : String → List ℕ
 bytes [] = []ᴸ

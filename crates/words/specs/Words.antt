@@ -36,6 +36,10 @@ seek word n isStart at (b ∷ bs) =
     (At n (tried isStart word at (b ∷ bs)))
     (seek word (counted n (eqb b 10)) (eqb b 10) (at + 1) bs)
 
+-- a word's line in the table
+abbrev pub wordNumber : List ℕ → Found
+wordNumber word = seek word 0 true 0 table
+
 -- a word with numbers: the call's number, or bad for a word that is none and for numbers of another shape
 abbrev pub calledAt : List ℕ → List ℕ → Found → Meaning
 calledAt text args (At n at) = cond (fitsShape (drop at text) args) (Call n) Bad

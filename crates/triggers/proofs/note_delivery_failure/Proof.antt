@@ -6,7 +6,9 @@ use denote.Triple.Table.{entered, cited}
 use Rattle.triggers.specs.Triggers.{notedFailure}
 use Rattle.triggers.proofs.Noting.{Stepped, meets}
 use Rattle.triggers.proofs.noted_failure.Symbol as g-def
+use Rattle.triggers.proofs.noted_failure.Symbol.{name as #triggers·noted-failure}
 use Rattle.triggers.proofs.noted_failure.Met as g-thm
+use Rattle.triggers.proofs.note_delivery_failure.Key.{name as #triggers·note-delivery-failure}
 use Rattle.triggers.proofs.note_delivery_failure as f
 use Rattle.triggers.proofs.note_delivery_failure.Statement as stated
 use Rattle.triggers.proofs.note_delivery_failure.Code as code

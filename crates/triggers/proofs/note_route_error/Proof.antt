@@ -6,7 +6,9 @@ use denote.Triple.Table.{entered, cited}
 use Rattle.triggers.specs.Triggers.{notedError}
 use Rattle.triggers.proofs.Noting.{Stepped, meets}
 use Rattle.triggers.proofs.noted_error.Symbol as g-def
+use Rattle.triggers.proofs.noted_error.Symbol.{name as #triggers·noted-error}
 use Rattle.triggers.proofs.noted_error.Met as g-thm
+use Rattle.triggers.proofs.note_route_error.Key.{name as #triggers·note-route-error}
 use Rattle.triggers.proofs.note_route_error as f
 use Rattle.triggers.proofs.note_route_error.Statement as stated
 use Rattle.triggers.proofs.note_route_error.Code as code

@@ -40,7 +40,9 @@ use Rattle.triggers.proofs.Triggers as T
 use Rattle.triggers.proofs.Triggers.Laws as T′
 use Rattle.triggers.proofs.spent as g
 use Rattle.triggers.proofs.spent.Symbol as g-def
+use Rattle.triggers.proofs.spent.Symbol.{name as #triggers·spent}
 use Rattle.triggers.proofs.spent.Met as g-thm
+use Rattle.triggers.proofs.reset_mtorr_triggers.Key.{name as #triggers·reset-mtorr-triggers}
 use Rattle.triggers.proofs.reset_mtorr_triggers as f
 use Rattle.triggers.proofs.reset_mtorr_triggers.Statement as stated
 use Rattle.triggers.proofs.reset_mtorr_triggers.Code as code
