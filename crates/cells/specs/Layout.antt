@@ -15,32 +15,32 @@ imageVersion = 1
 abbrev pub routesPlace : ℕ
 routesPlace = 5
 
-abbrev pub routeRows : ℕ
-routeRows = 70
+abbrev pub routeRowsPlace : ℕ
+routeRowsPlace = 70
 
 abbrev pub discoveriesPlace : ℕ
 discoveriesPlace = 710
 
-abbrev pub discoveryRows : ℕ
-discoveryRows = 743
+abbrev pub discoveryRowsPlace : ℕ
+discoveryRowsPlace = 743
 
 abbrev pub recordsPlace : ℕ
 recordsPlace = 967
 
-abbrev pub recordRows : ℕ
-recordRows = 1032
+abbrev pub recordRowsPlace : ℕ
+recordRowsPlace = 1032
 
 abbrev pub neighborsPlace : ℕ
 neighborsPlace = 1160
 
-abbrev pub neighborRows : ℕ
-neighborRows = 1225
+abbrev pub neighborRowsPlace : ℕ
+neighborRowsPlace = 1225
 
 abbrev pub waitingPlace : ℕ
 waitingPlace = 2953
 
-abbrev pub waitingRows : ℕ
-waitingRows = 3018
+abbrev pub waitingRowsPlace : ℕ
+waitingRowsPlace = 3018
 
 -- where the relay store begins, and where the image ends
 abbrev pub storePlace : ℕ

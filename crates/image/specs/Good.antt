@@ -7,7 +7,7 @@ use mathlib.Core.List.{List, [], _∷_}
 use lib.Dec.{eqb, leb}
 use lib.ListN.{length, take, drop, getD}
 use Rattle.numbers.specs.Read.{numberAt}
-use Rattle.cells.specs.Layout.{imageMark, imageVersion, routesPlace, routeRows, discoveriesPlace, discoveryRows, recordsPlace, recordRows, neighborsPlace, neighborRows, waitingPlace, waitingRows, storePlace, imageLength}
+use Rattle.cells.specs.Layout.{imageMark, imageVersion, routesPlace, routeRowsPlace, discoveriesPlace, discoveryRowsPlace, recordsPlace, recordRowsPlace, neighborsPlace, neighborRowsPlace, waitingPlace, waitingRowsPlace, storePlace, imageLength}
 
 -- the numbers from place a up to place e
 abbrev pub part : ℕ → ℕ → List ℕ → List ℕ
@@ -48,11 +48,11 @@ storeLimits = 65535 ∷ []
 
 -- the rows of the three routing tables
 unfoldable pub routingFits : List ℕ → Bool
-routingFits xs = within routeLimits 0 (part routeRows discoveriesPlace xs) && (within discoveryLimits 0 (part discoveryRows recordsPlace xs) && within recordLimits 0 (part recordRows neighborsPlace xs))
+routingFits xs = within routeLimits 0 (part routeRowsPlace discoveriesPlace xs) && (within discoveryLimits 0 (part discoveryRowsPlace recordsPlace xs) && within recordLimits 0 (part recordRowsPlace neighborsPlace xs))
 
 -- the rows of the neighbours and of the waiting samples
 unfoldable pub neighborsFit : List ℕ → Bool
-neighborsFit xs = within neighborLimits 0 (part neighborRows waitingPlace xs) && within waitingLimits 0 (part waitingRows storePlace xs)
+neighborsFit xs = within neighborLimits 0 (part neighborRowsPlace waitingPlace xs) && within waitingLimits 0 (part waitingRowsPlace storePlace xs)
 
 -- the mark, the version and the counters
 unfoldable pub headFits : List ℕ → Bool

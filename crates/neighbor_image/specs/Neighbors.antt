@@ -9,7 +9,7 @@ use Rattle.waiting_table.specs.declared.WaitingEntry.{WaitingEntry}
 use Rattle.waiting_table.specs.declared.WaitingTable.{WaitingTable}
 use Rattle.neighbor_values.specs.Reading.{neighborAt, waitingEntryAt}
 use Rattle.neighbor_values.specs.Values.{neighborNumbers, samplesNumbers}
-use Rattle.cells.specs.Layout.{neighborsPlace, neighborRows, waitingPlace, waitingRows}
+use Rattle.cells.specs.Layout.{neighborsPlace, neighborRowsPlace, waitingPlace, waitingRowsPlace}
 use Rattle.cells.specs.Listed.{listed, keysAt}
 
 -- a waiting entry's numbers
@@ -18,10 +18,10 @@ waitingNumbers e = e .«network_address» .0 ∷ samplesNumbers (e .lqas)
 
 -- a table whose rows are read from the image: its count, its keys after it and then its rows
 unfoldable pub neighborsAt : List ℕ → NeighborTable
-neighborsAt xs = record { keys = keysAt xs (neighborsPlace + 1) 64; entries = listed (λ i. neighborAt xs (neighborRows + i * 27)) 0 64; count = numberAt xs neighborsPlace }
+neighborsAt xs = record { keys = keysAt xs (neighborsPlace + 1) 64; entries = listed (λ i. neighborAt xs (neighborRowsPlace + i * 27)) 0 64; count = numberAt xs neighborsPlace }
 
 unfoldable pub waitingAt : List ℕ → WaitingTable
-waitingAt xs = record { keys = keysAt xs (waitingPlace + 1) 64; entries = listed (λ i. waitingEntryAt xs (waitingRows + i * 6)) 0 64; count = numberAt xs waitingPlace }
+waitingAt xs = record { keys = keysAt xs (waitingPlace + 1) 64; entries = listed (λ i. waitingEntryAt xs (waitingRowsPlace + i * 6)) 0 64; count = numberAt xs waitingPlace }
 
 -- a table's numbers: its count, its keys and its rows
 unfoldable pub neighborsNumbers : NeighborTable → List ℕ

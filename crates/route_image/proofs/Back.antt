@@ -12,7 +12,7 @@ use Rattle.route_answers.specs.Values.{routeNumbers, discoveryNumbers}
 use Rattle.route_table.specs.declared.RouteTable.{RouteTable}
 use Rattle.discovery_table.specs.declared.DiscoveryTable.{DiscoveryTable}
 use Rattle.record_table.specs.declared.RecordTable.{RecordTable}
-use Rattle.cells.specs.Layout.{routesPlace, routeRows, discoveriesPlace, discoveryRows, recordsPlace, recordRows}
+use Rattle.cells.specs.Layout.{routesPlace, routeRowsPlace, discoveriesPlace, discoveryRowsPlace, recordsPlace, recordRowsPlace}
 use Rattle.cells.proofs.Back.{Each, there, first-there, cut-back, flag-back, keys-back, rows-back, keys-part, rows-part}
 use Rattle.route_args.specs.Read.{statusOf, routeAt, discoveryAt}
 use Rattle.route_args.proofs.Back.{status-back}
@@ -81,7 +81,7 @@ routes-back t xs rest h k l a =
     let rows = flatMap routeNumbers (t .entries) in
     λ z. record {
       keys = keys-back (t .keys) xs (rows ++ rest) (routesPlace + 1) 64 (keys-part (t .count) (t .keys) rows xs rest routesPlace h) k z;
-      entries = rows-back routeNumbers 10 routeAt RouteFits (λ e. refl) route-back (t .entries) xs rest routeRows 64 (rows-part (t .count) (t .keys) rows xs rest routesPlace h 64 k) l a z;
+      entries = rows-back routeNumbers 10 routeAt RouteFits (λ e. refl) route-back (t .entries) xs rest routeRowsPlace 64 (rows-part (t .count) (t .keys) rows xs rest routesPlace h 64 k) l a z;
       count = first-there xs (routesNumbers t ++ rest) routesPlace h z;
     }
 
@@ -92,7 +92,7 @@ discoveries-back t xs rest h k l a =
     let rows = flatMap discoveryNumbers (t .entries) in
     λ z. record {
       keys = keys-back (t .keys) xs (rows ++ rest) (discoveriesPlace + 1) 32 (keys-part (t .count) (t .keys) rows xs rest discoveriesPlace h) k z;
-      entries = rows-back discoveryNumbers 7 discoveryAt DiscoveryFits (λ e. refl) discovery-back (t .entries) xs rest discoveryRows 32 (rows-part (t .count) (t .keys) rows xs rest discoveriesPlace h 32 k) l a z;
+      entries = rows-back discoveryNumbers 7 discoveryAt DiscoveryFits (λ e. refl) discovery-back (t .entries) xs rest discoveryRowsPlace 32 (rows-part (t .count) (t .keys) rows xs rest discoveriesPlace h 32 k) l a z;
       count = first-there xs (discoveriesNumbers t ++ rest) discoveriesPlace h z;
     }
 
@@ -103,6 +103,6 @@ records-back t xs rest h k l a =
     let rows = flatMap recordNumbers (t .entries) in
     λ z. record {
       keys = keys-back (t .keys) xs (rows ++ rest) (recordsPlace + 1) 64 (keys-part (t .count) (t .keys) rows xs rest recordsPlace h) k z;
-      entries = rows-back recordNumbers 2 recordAt RecordFits (λ e. refl) record-back (t .entries) xs rest recordRows 64 (rows-part (t .count) (t .keys) rows xs rest recordsPlace h 64 k) l a z;
+      entries = rows-back recordNumbers 2 recordAt RecordFits (λ e. refl) record-back (t .entries) xs rest recordRowsPlace 64 (rows-part (t .count) (t .keys) rows xs rest recordsPlace h 64 k) l a z;
       count = first-there xs (recordsNumbers t ++ rest) recordsPlace h z;
     }

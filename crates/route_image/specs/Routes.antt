@@ -10,7 +10,7 @@ use Rattle.route_answers.specs.Values.{routeNumbers, discoveryNumbers}
 use Rattle.route_table.specs.declared.RouteTable.{RouteTable}
 use Rattle.discovery_table.specs.declared.DiscoveryTable.{DiscoveryTable}
 use Rattle.record_table.specs.declared.RecordTable.{RecordTable}
-use Rattle.cells.specs.Layout.{routesPlace, routeRows, discoveriesPlace, discoveryRows, recordsPlace, recordRows}
+use Rattle.cells.specs.Layout.{routesPlace, routeRowsPlace, discoveriesPlace, discoveryRowsPlace, recordsPlace, recordRowsPlace}
 use Rattle.cells.specs.Listed.{listed, keysAt}
 
 -- a record, from place b on, and its numbers
@@ -22,13 +22,13 @@ recordNumbers e = e .destination .0 ∷ e .«relay_count» ∷ []
 
 -- a table whose rows are read from the image: its count at its place, its keys after it and then its rows
 unfoldable pub routesAt : List ℕ → RouteTable
-routesAt xs = record { keys = keysAt xs (routesPlace + 1) 64; entries = listed (λ i. routeAt xs (routeRows + i * 10)) 0 64; count = numberAt xs routesPlace }
+routesAt xs = record { keys = keysAt xs (routesPlace + 1) 64; entries = listed (λ i. routeAt xs (routeRowsPlace + i * 10)) 0 64; count = numberAt xs routesPlace }
 
 unfoldable pub discoveriesAt : List ℕ → DiscoveryTable
-discoveriesAt xs = record { keys = keysAt xs (discoveriesPlace + 1) 32; entries = listed (λ i. discoveryAt xs (discoveryRows + i * 7)) 0 32; count = numberAt xs discoveriesPlace }
+discoveriesAt xs = record { keys = keysAt xs (discoveriesPlace + 1) 32; entries = listed (λ i. discoveryAt xs (discoveryRowsPlace + i * 7)) 0 32; count = numberAt xs discoveriesPlace }
 
 unfoldable pub recordsAt : List ℕ → RecordTable
-recordsAt xs = record { keys = keysAt xs (recordsPlace + 1) 64; entries = listed (λ i. recordAt xs (recordRows + i * 2)) 0 64; count = numberAt xs recordsPlace }
+recordsAt xs = record { keys = keysAt xs (recordsPlace + 1) 64; entries = listed (λ i. recordAt xs (recordRowsPlace + i * 2)) 0 64; count = numberAt xs recordsPlace }
 
 -- a table's numbers: its count, its keys and its rows
 unfoldable pub routesNumbers : RouteTable → List ℕ

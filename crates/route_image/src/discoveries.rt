@@ -5,7 +5,7 @@ ghost use mathlib.Core.Path.{_≡_};
 ghost use mathlib.Core.List.{flatMap};
 ghost use Prim.Native.Nat.{_+_, _*_};
 ghost use lib.Seq.{sets};
-ghost use Rattle.cells.specs.Layout.{discoveriesPlace, discoveryRows};
+ghost use Rattle.cells.specs.Layout.{discoveriesPlace, discoveryRowsPlace};
 ghost use Rattle.cells.specs.Listed.{listed};
 ghost use Rattle.route_args.specs.Read.{discoveryAt};
 ghost use Rattle.route_answers.specs.Values.{discoveryNumbers};
@@ -29,7 +29,7 @@ fn write_discovery(image: &mut [u64], base: usize, e: DiscoveryEntry)
 
 // The table with every row read from the image.
 fn discovery_rows(image: &[u64], table: DiscoveryTable) -> DiscoveryTable
-    ensures { λ r. ⌜ r ≡ record { keys = table .keys; entries = listed (λ i. discoveryAt (now (image .entry)) (discoveryRows + i * 7)) 0 32; count = table .count } ⌝ }
+    ensures { λ r. ⌜ r ≡ record { keys = table .keys; entries = listed (λ i. discoveryAt (now (image .entry)) (discoveryRowsPlace + i * 7)) 0 32; count = table .count } ⌝ }
 {
     let mut t = table;
     let mut i: usize = 0;
@@ -43,7 +43,7 @@ fn discovery_rows(image: &[u64], table: DiscoveryTable) -> DiscoveryTable
 
 // Every row of a table put in turn.
 fn write_discovery_rows(image: &mut [u64], t: DiscoveryTable)
-    ensures { λ _. ⌜ now (image .exit) ≡ sets (now (image .entry)) discoveryRows (flatMap discoveryNumbers (t .entries)) ⌝ }
+    ensures { λ _. ⌜ now (image .exit) ≡ sets (now (image .entry)) discoveryRowsPlace (flatMap discoveryNumbers (t .entries)) ⌝ }
 {
     let mut i: usize = 0;
     while i < 32 {

@@ -5,7 +5,7 @@ ghost use mathlib.Core.Path.{_≡_};
 ghost use mathlib.Core.List.{flatMap};
 ghost use Prim.Native.Nat.{_<_, _+_, _*_};
 ghost use lib.Seq.{sets};
-ghost use Rattle.cells.specs.Layout.{recordsPlace, recordRows};
+ghost use Rattle.cells.specs.Layout.{recordsPlace, recordRowsPlace};
 ghost use Rattle.cells.specs.Listed.{listed};
 ghost use Rattle.route_image.specs.Routes.{recordAt, recordsAt, recordsNumbers, recordNumbers};
 
@@ -32,7 +32,7 @@ fn write_record(image: &mut [u64], base: usize, e: RecordEntry)
 
 // The table with every row read from the image.
 fn record_rows(image: &[u64], table: RecordTable) -> RecordTable
-    ensures { λ r. ⌜ r ≡ record { keys = table .keys; entries = listed (λ i. recordAt (now (image .entry)) (recordRows + i * 2)) 0 64; count = table .count } ⌝ }
+    ensures { λ r. ⌜ r ≡ record { keys = table .keys; entries = listed (λ i. recordAt (now (image .entry)) (recordRowsPlace + i * 2)) 0 64; count = table .count } ⌝ }
 {
     let mut t = table;
     let mut i: usize = 0;
@@ -46,7 +46,7 @@ fn record_rows(image: &[u64], table: RecordTable) -> RecordTable
 
 // Every row of a table put in turn.
 fn write_record_rows(image: &mut [u64], t: RecordTable)
-    ensures { λ _. ⌜ now (image .exit) ≡ sets (now (image .entry)) recordRows (flatMap recordNumbers (t .entries)) ⌝ }
+    ensures { λ _. ⌜ now (image .exit) ≡ sets (now (image .entry)) recordRowsPlace (flatMap recordNumbers (t .entries)) ⌝ }
 {
     let mut i: usize = 0;
     while i < 64 {

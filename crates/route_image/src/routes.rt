@@ -5,7 +5,7 @@ ghost use mathlib.Core.Path.{_≡_};
 ghost use mathlib.Core.List.{flatMap};
 ghost use Prim.Native.Nat.{_+_, _*_};
 ghost use lib.Seq.{sets};
-ghost use Rattle.cells.specs.Layout.{routesPlace, routeRows};
+ghost use Rattle.cells.specs.Layout.{routesPlace, routeRowsPlace};
 ghost use Rattle.cells.specs.Listed.{listed};
 ghost use Rattle.route_args.specs.Read.{routeAt};
 ghost use Rattle.route_answers.specs.Values.{routeNumbers};
@@ -38,7 +38,7 @@ fn write_route(image: &mut [u64], base: usize, e: RouteEntry)
 
 // The table with every row read from the image.
 fn route_rows(image: &[u64], table: RouteTable) -> RouteTable
-    ensures { λ r. ⌜ r ≡ record { keys = table .keys; entries = listed (λ i. routeAt (now (image .entry)) (routeRows + i * 10)) 0 64; count = table .count } ⌝ }
+    ensures { λ r. ⌜ r ≡ record { keys = table .keys; entries = listed (λ i. routeAt (now (image .entry)) (routeRowsPlace + i * 10)) 0 64; count = table .count } ⌝ }
 {
     let mut t = table;
     let mut i: usize = 0;
@@ -52,7 +52,7 @@ fn route_rows(image: &[u64], table: RouteTable) -> RouteTable
 
 // Every row of a table put in turn.
 fn write_route_rows(image: &mut [u64], t: RouteTable)
-    ensures { λ _. ⌜ now (image .exit) ≡ sets (now (image .entry)) routeRows (flatMap routeNumbers (t .entries)) ⌝ }
+    ensures { λ _. ⌜ now (image .exit) ≡ sets (now (image .entry)) routeRowsPlace (flatMap routeNumbers (t .entries)) ⌝ }
 {
     let mut i: usize = 0;
     while i < 64 {
