@@ -1,7 +1,8 @@
 // The two trigger counters of the routing state as a small record, by value and lent for change.
 // A function that is lent the record is proved by a walk of its code, by hand; the work is done by value, where the code is covered.
 ghost use mathlib.Core.Path.{_≡_};
-ghost use Rattle.triggers.specs.Triggers.{nextCount, firesAt, countersOf, noted, notedError, notedFailure, zeroed, countedBy};
+ghost use Rattle.routing.specs.Queries.{nextCount, firesAt};
+ghost use Rattle.triggers.specs.Triggers.{countersOf, noted, notedError, notedFailure, zeroed, countedBy};
 
 // The signals counted toward an early many-to-one route request.
 pub struct Triggers {
