@@ -56,10 +56,8 @@ impl Change {
                 return with_sample(e, lqi);
             }
             Change::Outbound => {
-                x.router_outbound_activity = types::saturating_add_u8(
-                    e.router_outbound_activity,
-                    1,
-                );
+                let sent = e.router_outbound_activity;
+                x.router_outbound_activity = types::saturating_add_u8(sent, 1);
             }
             Change::Inbound => {
                 x.router_inbound_activity = types::saturating_add_u8(e.router_inbound_activity, 1);
