@@ -16,10 +16,6 @@ pub const RECORDS: usize = 967;
 pub const NEIGHBORS: usize = 1160;
 
 pub const WAITING: usize = 2953;
-// Where the relay store begins, and where the image ends.
-pub const STORE: usize = 3402;
-
-pub const LENGTH: usize = 5450;
 
 // The keys of a table of 64 places, and of one of 32.
 pub type Keys64 = [u64; 64];

@@ -21,10 +21,8 @@ const SET_STORE: u64 = 85;
 
 const SET_STORE_LENGTH: u64 = 86;
 
-// How long the lent part of the relay store is at the start, and how many places there are.
+// How long the lent part of the relay store is at the start.
 const LENT: usize = 2048;
-
-const PLACES: usize = 2049;
 
 // The world, how much of the store is lent, the line being read, and how many bytes of answers wait.
 struct Machine {
@@ -289,6 +287,7 @@ fn finish(m: Machine, store: &mut [u16], out: &mut [u8]) {
 fn main() {
     let mut input = io::large_buffer();
     let mut out = io::large_buffer();
+    // one place more than a store has, for `set_store_length`
     let mut store = [0u16; 2049];
     let world = world::fresh();
     let m = read_all(ready(world, LENT, 0), &mut input, &mut store, &mut out);
