@@ -4,7 +4,7 @@
    and takes no memory but the stack's: two images are two states, and one image may be used by one thread at a time. An image may be copied,
    stored and read back; it begins with a mark and a version. Its numbers have no meaning for the caller.
 
-   A call is a number and its arguments, those of docs/REPLAY.md: an optional argument is 0, or 1 and the value; a list is its count and then
+   A call is a number, of those below, and its arguments, those of docs/REPLAY.md: an optional argument is 0, or 1 and the value; a list is its count and then
    its elements, at most 80. All pointers have to be of live memory of the length given, and no two of them may overlap; an array of length 0
    still wants a pointer that is not null. */
 #ifndef WARPTEASEL_H

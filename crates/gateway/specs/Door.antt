@@ -27,12 +27,16 @@ newStatus xs = cond (eqb (length xs) 5450) 0 8
 unfoldable pub newImage : List ℕ → List ℕ
 newImage xs = cond (eqb (length xs) 5450) (imageWith freshWorld (replicate 2048 0) xs) xs
 
+-- the store that a call leaves; `reset` makes it zero, as in a script
+unfoldable pub storeLeft : ℕ → List ℕ → List ℕ
+storeLeft n store = cond (eqb n 0) (replicate 2048 0) store
+
 -- a call made on a world and on the image's store
 unfoldable pub madeAnswer : World → ℕ → List ℕ → List ℕ → Answer
 madeAnswer w n args xs = callOf w n args (storeIn xs) .answer
 
 unfoldable pub madeImage : World → ℕ → List ℕ → List ℕ → List ℕ
-madeImage w n args xs = imageWith (callOf w n args (storeIn xs) .world) (storeOf w n args (storeIn xs)) xs
+madeImage w n args xs = imageWith (callOf w n args (storeIn xs) .world) (storeLeft n (storeOf w n args (storeIn xs))) xs
 
 -- numbers that are a call here: of the shape of their call's, which is none that the program of scripts answers itself
 unfoldable pub isCall : ℕ → List ℕ → Bool

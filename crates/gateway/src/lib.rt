@@ -3,7 +3,7 @@ use numbers::Answer;
 use types::Refusal;
 use world::World;
 ghost use mathlib.Core.Path.{_≡_};
-ghost use Rattle.gateway.specs.Door.{imageWith, newStatus, newImage, madeAnswer, madeImage, isCall, calledAnswer, calledImage, answerOf, imageAfter, answerWritten, callStatus, callImage, callAnswer};
+ghost use Rattle.gateway.specs.Door.{imageWith, newStatus, newImage, storeLeft, madeAnswer, madeImage, isCall, calledAnswer, calledImage, answerOf, imageAfter, answerWritten, callStatus, callImage, callAnswer};
 
 // How many numbers an image has.
 #[no_mangle]
@@ -44,6 +44,16 @@ pub extern "C" fn warpteasel_new(image: &mut [u64]) -> u64
     0
 }
 
+// The store that a call leaves; `reset` makes it zero.
+fn left(number: u64, store: [u16; 2048]) -> [u16; 2048]
+    ensures { λ r. ⌜ r ≡ storeLeft number store ⌝ }
+{
+    if number == 0 {
+        return [0; 2048];
+    }
+    store
+}
+
 // A call made on a world and on the store of the image, which is left as the call leaves them.
 fn made(world: World, number: u64, args: &[u64], image: &mut [u64]) -> Answer
     ensures { λ r. ⌜ r ≡ madeAnswer world number (now (args .entry)) (now (image .entry)) ⌝ }
@@ -53,7 +63,8 @@ fn made(world: World, number: u64, args: &[u64], image: &mut [u64]) -> Answer
     let reply = calls::call(world, number, args, &mut store);
     let after = reply.world;
     let answer = reply.answer;
-    keep(after, &store, image);
+    let rest = left(number, store);
+    keep(after, &rest, image);
     answer
 }
 

@@ -96,7 +96,7 @@ impl State {
         &self.image
     }
 
-    /// The call of a number with its values, both as docs/REPLAY.md has them, and the values of its answer.
+    /// The call of a number, of those that gateway/warpteasel.h lists, with arguments as docs/REPLAY.md has them; the values of its answer.
     pub fn call(&mut self, number: u64, args: &[u64]) -> Result<Vec<u64>, Refusal> {
         let mut answer = [0u64; ANSWER];
         // SAFETY: each pointer and length are those of a live slice, and none overlaps another.

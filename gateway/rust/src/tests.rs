@@ -85,6 +85,16 @@ fn what_only_scripts_call_is_bad() {
 }
 
 #[test]
+fn reset_makes_all_fresh() {
+    let mut state = with_route();
+    assert_eq!(state.store_route_record(7, &[30, 31]), Ok(true));
+    assert_ne!(state, State::new());
+    assert_eq!(state.call(0, &[]), Ok(vec![]));
+    assert_eq!(state, State::new());
+    assert_eq!(state.route_to_default(7), Ok(Way::NoRoute));
+}
+
+#[test]
 fn bad_comes_before_a_damaged_image() {
     let mut state = State::from_image(vec![0; IMAGE]);
     assert_eq!(state.call(15, &[]), Err(Refusal::Bad));

@@ -6,7 +6,7 @@ use denote.Ref.{now}
 use Rattle.world.specs.declared.World.{World}
 use Rattle.world.specs.declared.Reply.{Reply}
 use Rattle.calls.specs.Groups.{callOf, storeOf}
-use Rattle.gateway.specs.Door.{madeAnswer, madeImage, imageWith}
+use Rattle.gateway.specs.Door.{storeLeft, madeAnswer, madeImage, imageWith}
 use borrow.Author.Needs.{needs}
 use Rattle.gateway.proofs.made.Statement.{statement}
 use Rattle.gateway.proofs.made.Tie as tie
@@ -20,6 +20,9 @@ slice-aggregate-call c = search needs
 call-requires : tie.Need-call-requires
 call-requires c κs = search needs
 
+left-requires : tie.Need-left-requires
+left-requires c κs = search needs
+
 slice-aggregate-keep : tie.Need-slice-aggregate-keep
 slice-aggregate-keep c = search needs
 
@@ -32,13 +35,14 @@ same-length c = search needs
 returns : tie.Need-returns
 unfolding madeAnswer madeImage
 returns c =
-    let a = c .before .before .before .before .before .before .before .before .before .before .before .before .before .before .args in
+    let a = c .before .before .before .before .before .before .before .before .before .before .before .before .before .before .before .args in
     let n = a .number in
     let g = now (a .args) in
-    let s = c .before .before .before .before .before .before .before .before .before .before .read-store .ensures in
-    let e = c .before .before .before .before .before .before .before .before .call .ensures .0 ∙ ap (λ (m : List ℕ). callOf (a .world) n g m) s in
-    let f = c .before .before .before .before .before .before .before .before .call .ensures .1 ∙ ap (λ (m : List ℕ). storeOf (a .world) n g m) s in
-    (ap (λ (r : Reply). r .answer) e, c .before .before .keep .ensures ∙ ap₂ (λ (w : World) (m : List ℕ). imageWith w m (now (a .image))) (ap (λ (r : Reply). r .world) e) f)
+    let s = c .before .before .before .before .before .before .before .before .before .before .before .read-store .ensures in
+    let e = c .before .before .before .before .before .before .before .before .before .call .ensures .0 ∙ ap (λ (m : List ℕ). callOf (a .world) n g m) s in
+    let f = c .before .before .before .before .before .before .before .before .before .call .ensures .1 ∙ ap (λ (m : List ℕ). storeOf (a .world) n g m) s in
+    let l = c .before .before .before .before .before .left .ensures ∙ ap (storeLeft n) f in
+    (ap (λ (r : Reply). r .answer) e, c .before .before .keep .ensures ∙ ap₂ (λ (w : World) (m : List ℕ). imageWith w m (now (a .image))) (ap (λ (r : Reply). r .world) e) l)
 
 pub made-spec : {M : Type 1} → statement M
 made-spec =
@@ -47,6 +51,7 @@ made-spec =
     read-store-requires
     slice-aggregate-call
     call-requires
+    left-requires
     slice-aggregate-keep
     keep-requires
     same-length
