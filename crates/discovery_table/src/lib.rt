@@ -2,6 +2,7 @@
 use flat_map::Place;
 use standard::DiscoveryEntry;
 use types::Nwk;
+ghost use mathlib.Core.Bool.{_||_};
 ghost use mathlib.Core.Path.{_≡_};
 ghost use mathlib.Core.List.{[]};
 ghost use Prim.Native.Nat.{_+_, _-_, _≤_, _<_};
@@ -62,6 +63,16 @@ fn is_blank(e: DiscoveryEntry) -> bool
                 & ((e.forward_cost == 0)
                     & ((e.residual_cost == 0)
                         & ((e.expiration_time == 0) & (e.destination_address.0 == 0))))))
+}
+
+// Whether a place holds what it may: any entry where it is in use, else the blank one.
+fn place_holds(used: bool, e: DiscoveryEntry) -> bool
+    ensures { λ r. ⌜ r ≡ (used || isBlank e) ⌝ }
+{
+    if used {
+        return true;
+    }
+    is_blank(e)
 }
 
 // An entry put in at a place, both arrays shifted right.
@@ -136,8 +147,8 @@ pub fn well_formed(t: DiscoveryTable) -> bool
         let e = t.entries[i];
         let source = e.source_address;
         let key = pair_key(source, e.route_request_id);
-        let blank = is_blank(e);
-        kept = kept & ((k == key) & ((i < n) | blank));
+        let holds = place_holds(i < n, e);
+        kept = kept & ((k == key) & holds);
         i += 1;
     }
     kept

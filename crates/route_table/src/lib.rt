@@ -3,6 +3,7 @@ use flat_map::Place;
 use standard::RouteEntry;
 use standard::Status;
 use types::Nwk;
+ghost use mathlib.Core.Bool.{_||_};
 ghost use mathlib.Core.Path.{_≡_};
 ghost use mathlib.Core.List.{[], map};
 ghost use Prim.Native.Nat.{_+_, _-_, _≤_, _<_};
@@ -57,6 +58,16 @@ fn is_blank(e: RouteEntry) -> bool
                             & (!e.many_to_one
                                 & (!e.route_record_required
                                     & (!e.expired & route_entry::is_active(s)))))))))
+}
+
+// Whether a place holds what it may: any entry where it is in use, else the blank one.
+fn place_holds(used: bool, e: RouteEntry) -> bool
+    ensures { λ r. ⌜ r ≡ (used || isBlank e) ⌝ }
+{
+    if used {
+        return true;
+    }
+    is_blank(e)
 }
 
 // An entry put in at a place, both arrays shifted right.
@@ -129,8 +140,8 @@ pub fn well_formed(t: RouteTable) -> bool
     while i < 64 {
         let k = t.keys[i];
         let e = t.entries[i];
-        let blank = is_blank(e);
-        kept = kept & ((k == e.destination.0 as u64) & ((i < n) | blank));
+        let holds = place_holds(i < n, e);
+        kept = kept & ((k == e.destination.0 as u64) & holds);
         i += 1;
     }
     kept

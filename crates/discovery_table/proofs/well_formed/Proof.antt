@@ -53,8 +53,8 @@ element-copy-out-e c = search needs
 pair-key-requires : tie.Need-pair-key-requires Inv-loop μ-loop
 pair-key-requires c κs = search needs
 
-is-blank-requires : tie.Need-is-blank-requires Inv-loop μ-loop
-is-blank-requires c κs = search needs
+place-holds-requires : tie.Need-place-holds-requires Inv-loop μ-loop
+place-holds-requires c κs = search needs
 
 add-i : tie.Need-add-i Inv-loop μ-loop
 add-i c = search needs
@@ -66,8 +66,8 @@ loop-again : tie.Need-loop-again Inv-loop μ-loop
 loop-again c =
     let v = c .before .before .before .before .before .before .loop in
     let t = c .before .before .before .before .before .before .before .before .before .before .before .before .before .args .t1 in
-    rw (c .before .pair-key .ensures)
-    (kept-more discoveryKey blankDiscovery (t .keys) (t .entries) (t .count) isBlank blank-told (v .i) _ refl (c .is-blank .ensures) (v .inv))
+    rw (c .before .pair-key .ensures, c .place-holds .ensures)
+    (kept-more discoveryKey blankDiscovery (t .keys) (t .entries) (t .count) isBlank blank-told (v .i) _ refl refl (v .inv))
 
 returns-3 : tie.Need-returns-3 Inv-loop μ-loop
 returns-3 c =
@@ -95,7 +95,7 @@ well-formed-spec =
     mul-e
     element-copy-out-e
     pair-key-requires
-    is-blank-requires
+    place-holds-requires
     add-i
     loop-less
     loop-again

@@ -50,8 +50,8 @@ mul-e c = search needs
 element-copy-out-e : tie.Need-element-copy-out-e Inv-loop μ-loop
 element-copy-out-e c = search needs
 
-is-blank-requires : tie.Need-is-blank-requires Inv-loop μ-loop
-is-blank-requires c κs = search needs
+place-holds-requires : tie.Need-place-holds-requires Inv-loop μ-loop
+place-holds-requires c κs = search needs
 
 cast-kept : tie.Need-cast-kept Inv-loop μ-loop
 cast-kept c = search needs
@@ -66,7 +66,8 @@ loop-again : tie.Need-loop-again Inv-loop μ-loop
 loop-again c =
     let v = c .before .before .before .before .before .loop in
     let t = c .before .before .before .before .before .before .before .before .before .before .before .before .args .t1 in
-    kept-more routeKey blankRoute (t .keys) (t .entries) (t .count) isBlank blank-told (v .i) _ refl (c .before .is-blank .ensures) (v .inv)
+    rw (c .before .place-holds .ensures)
+    (kept-more routeKey blankRoute (t .keys) (t .entries) (t .count) isBlank blank-told (v .i) _ refl refl (v .inv))
 
 returns-3 : tie.Need-returns-3 Inv-loop μ-loop
 returns-3 c =
@@ -93,7 +94,7 @@ well-formed-spec =
     element-copy-out-k
     mul-e
     element-copy-out-e
-    is-blank-requires
+    place-holds-requires
     cast-kept
     add-i
     loop-less
