@@ -11,7 +11,7 @@ use lib.Seq.{sets, sets-eq}
 use Rattle.numbers.specs.Read.{numberAt}
 use Rattle.world.specs.declared.World.{World}
 use Rattle.cells.specs.Listed.{listed}
-use Rattle.cells.proofs.Back.{Each, none, one, after, first-there, cut-back}
+use Rattle.cells.proofs.Back.{Each, one, after, first-there, cut-back}
 use Rattle.cells.proofs.Writing.{put-both}
 use Rattle.neighbor_image.specs.Neighbors.{waitingTableNumbers}
 use Rattle.neighbor_image.specs.Neighbors as tables
