@@ -1,4 +1,4 @@
-// The network header by value, field by field as document 005 has it, and the two changes that a call makes to one.
+// The network header by value, field by field as the Rust has it, and the two changes that a call makes to one.
 use standard::RelayList;
 use types::Eui64;
 use types::Nwk;

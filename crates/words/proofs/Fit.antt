@@ -44,10 +44,6 @@ item-taken s w r x xs h e =
     rw (e, fit-item (drop (w .at) s) (w .kind) (w .pending) x xs h)
     (and-assoc (w .good) (within (item (w .kind) (w .pending)) x) (fit (drop (w .at) s) (w .kind) (w .pending - 1) xs))
 
-bad-not : (s : List ℕ) (r : Want) (xs : List ℕ) → r .good ≡ false → fitFrom s r xs ≡ false
-unfolding fitFrom
-bad-not s r xs e = rw e
-
 -- a value past the end of the shape
 pub past-taken : (s : List ℕ) (w r : Want) (x : ℕ) (xs : List ℕ) → w .pending ≡ 0 → length s ≤ w .at → r .good ≡ false → fitFrom s r xs ≡ fitFrom s w (x ∷ xs)
 unfolding fitFrom fit
