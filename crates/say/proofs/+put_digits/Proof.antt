@@ -2,7 +2,7 @@
 -- Assumes nothing.
 use borrow.Author.Needs.{needs}
 use native.Mathlib.Omega.{arith}
-use Prim.Native.Nat.{ℕ, _+_, _%_}
+use Prim.Native.Nat.{ℕ, _+_, _%_, _<_}
 use mathlib.Core.Path.{sym, ap, _∙_}
 use Rattle.say.specs.Page.{Page, page, putByte}
 use Rattle.say.proofs.Pages.{digits-none, digits-last, digits-more}
