@@ -35,8 +35,12 @@ storeLeft n store = cond (eqb n 0) (replicate 2048 0) store
 unfoldable pub madeAnswer : World → ℕ → List ℕ → List ℕ → Answer
 madeAnswer w n args xs = callOf w n args (storeIn xs) .answer
 
+-- "a refused call hands back the old state and an unchanged store": only a call that is answered, kind 0, writes the image
+unfoldable pub keptBy : ℕ → World → List ℕ → List ℕ → List ℕ
+keptBy kind w store xs = cond (eqb kind 0) (imageWith w store xs) xs
+
 unfoldable pub madeImage : World → ℕ → List ℕ → List ℕ → List ℕ
-madeImage w n args xs = imageWith (callOf w n args (storeIn xs) .world) (storeLeft n (storeOf w n args (storeIn xs))) xs
+madeImage w n args xs = keptBy (callOf w n args (storeIn xs) .answer .kind) (callOf w n args (storeIn xs) .world) (storeLeft n (storeOf w n args (storeIn xs))) xs
 
 -- numbers that are a call here: of the shape of their call's, which is none that the program of scripts answers itself
 unfoldable pub isCall : ℕ → List ℕ → Bool

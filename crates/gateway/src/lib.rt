@@ -3,7 +3,7 @@ use numbers::Answer;
 use types::Refusal;
 use world::World;
 ghost use mathlib.Core.Path.{_≡_};
-ghost use Rattle.gateway.specs.Door.{imageWith, newStatus, newImage, storeLeft, madeAnswer, madeImage, isCall, calledAnswer, calledImage, answerOf, imageAfter, answerWritten, callStatus, callImage, callAnswer};
+ghost use Rattle.gateway.specs.Door.{imageWith, newStatus, newImage, storeLeft, keptBy, madeAnswer, madeImage, isCall, calledAnswer, calledImage, answerOf, imageAfter, answerWritten, callStatus, callImage, callAnswer};
 
 // How many numbers an image has.
 #[no_mangle]
@@ -54,6 +54,16 @@ fn left(number: u64, store: [u16; 2048]) -> [u16; 2048]
     store
 }
 
+// What a call leaves, put into the image if the call was answered; one that is refused or bad leaves the image alone.
+fn keep_answered(kind: u8, world: World, store: &[u16], image: &mut [u64])
+    ensures { λ _. ⌜ now (image .exit) ≡ keptBy kind world (now (store .entry)) (now (image .entry)) ⌝ }
+{
+    if kind != 0 {
+        return;
+    }
+    keep(world, store, image);
+}
+
 // A call made on a world and on the store of the image, which is left as the call leaves them.
 fn made(world: World, number: u64, args: &[u64], image: &mut [u64]) -> Answer
     ensures { λ r. ⌜ r ≡ madeAnswer world number (now (args .entry)) (now (image .entry)) ⌝ }
@@ -64,7 +74,7 @@ fn made(world: World, number: u64, args: &[u64], image: &mut [u64]) -> Answer
     let after = reply.world;
     let answer = reply.answer;
     let rest = left(number, store);
-    keep(after, &rest, image);
+    keep_answered(answer.kind, after, &rest, image);
     answer
 }
 

@@ -3,10 +3,9 @@ use Prim.Native.Nat.{ℕ}
 use mathlib.Core.List.{List}
 use mathlib.Core.Path.{ap, ap₂, _∙_}
 use denote.Ref.{now}
-use Rattle.world.specs.declared.World.{World}
 use Rattle.world.specs.declared.Reply.{Reply}
 use Rattle.calls.specs.Groups.{callOf, storeOf}
-use Rattle.gateway.specs.Door.{storeLeft, madeAnswer, madeImage, imageWith}
+use Rattle.gateway.specs.Door.{storeLeft, keptBy, madeAnswer, madeImage}
 use borrow.Author.Needs.{needs}
 use Rattle.gateway.proofs.made.Statement.{statement}
 use Rattle.gateway.proofs.made.Tie as tie
@@ -23,11 +22,11 @@ call-requires c κs = search needs
 left-requires : tie.Need-left-requires
 left-requires c κs = search needs
 
-slice-aggregate-keep : tie.Need-slice-aggregate-keep
-slice-aggregate-keep c = search needs
+slice-aggregate-keep-answered : tie.Need-slice-aggregate-keep-answered
+slice-aggregate-keep-answered c = search needs
 
-keep-requires : tie.Need-keep-requires
-keep-requires c κs = search needs
+keep-answered-requires : tie.Need-keep-answered-requires
+keep-answered-requires c κs = search needs
 
 same-length : tie.Need-same-length
 same-length c = search needs
@@ -42,7 +41,7 @@ returns c =
     let e = c .before .before .before .before .before .before .before .before .before .call .ensures .0 ∙ ap (λ (m : List ℕ). callOf (a .world) n g m) s in
     let f = c .before .before .before .before .before .before .before .before .before .call .ensures .1 ∙ ap (λ (m : List ℕ). storeOf (a .world) n g m) s in
     let l = c .before .before .before .before .before .left .ensures ∙ ap (storeLeft n) f in
-    (ap (λ (r : Reply). r .answer) e, c .before .before .keep .ensures ∙ ap₂ (λ (w : World) (m : List ℕ). imageWith w m (now (a .image))) (ap (λ (r : Reply). r .world) e) l)
+    (ap (λ (r : Reply). r .answer) e, c .before .before .keep-answered .ensures ∙ ap₂ (λ (r : Reply) (m : List ℕ). keptBy (r .answer .kind) (r .world) m (now (a .image))) e l)
 
 pub made-spec : {M : Type 1} → statement M
 made-spec =
@@ -52,7 +51,7 @@ made-spec =
     slice-aggregate-call
     call-requires
     left-requires
-    slice-aggregate-keep
-    keep-requires
+    slice-aggregate-keep-answered
+    keep-answered-requires
     same-length
     returns)
