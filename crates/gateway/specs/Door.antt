@@ -13,19 +13,20 @@ use Rattle.world.specs.declared.World.{World}
 use Rattle.world.specs.Worlds.{freshWorld}
 use Rattle.calls.specs.Groups.{groupOf, callOf, storeOf}
 use Rattle.words.specs.Words.{shaped}
+use Rattle.cells.specs.Layout.{storePlace, imageLength}
 use Rattle.image.specs.Good.{goodImage}
 use Rattle.image.specs.Image.{worldIn, storeIn, worldNumbers}
 
 -- a world and a store put into an image
 unfoldable pub imageWith : World → List ℕ → List ℕ → List ℕ
-imageWith w store xs = sets (sets xs 0 (worldNumbers w)) 3402 store
+imageWith w store xs = sets (sets xs 0 (worldNumbers w)) storePlace store
 
 -- a new image: 0 and the fresh world, or 8 and nothing where the length is wrong
 unfoldable pub newStatus : List ℕ → ℕ
-newStatus xs = cond (eqb (length xs) 5450) 0 8
+newStatus xs = cond (eqb (length xs) imageLength) 0 8
 
 unfoldable pub newImage : List ℕ → List ℕ
-newImage xs = cond (eqb (length xs) 5450) (imageWith freshWorld (replicate 2048 0) xs) xs
+newImage xs = cond (eqb (length xs) imageLength) (imageWith freshWorld (replicate 2048 0) xs) xs
 
 -- the store that a call leaves; `reset` makes it zero, as in a script
 unfoldable pub storeLeft : ℕ → List ℕ → List ℕ
@@ -35,7 +36,7 @@ storeLeft n store = cond (eqb n 0) (replicate 2048 0) store
 unfoldable pub madeAnswer : World → ℕ → List ℕ → List ℕ → Answer
 madeAnswer w n args xs = callOf w n args (storeIn xs) .answer
 
--- "a refused call hands back the old state and an unchanged store": only a call that is answered, kind 0, writes the image
+-- demand 1, "a refused call hands back the old state and an unchanged store": only a call that is answered, kind 0, writes the image
 unfoldable pub keptBy : ℕ → World → List ℕ → List ℕ → List ℕ
 keptBy kind w store xs = cond (eqb kind 0) (imageWith w store xs) xs
 

@@ -3,12 +3,13 @@ use numbers::Answer;
 use types::Refusal;
 use world::World;
 ghost use mathlib.Core.Path.{_≡_};
+ghost use Rattle.cells.specs.Layout.{imageLength};
 ghost use Rattle.gateway.specs.Door.{imageWith, newStatus, newImage, storeLeft, keptBy, madeAnswer, madeImage, isCall, calledAnswer, calledImage, answerOf, imageAfter, answerWritten, callStatus, callImage, callAnswer};
 
 // How many numbers an image has.
 #[no_mangle]
 pub extern "C" fn warpteasel_image_length() -> usize
-    ensures { λ r. ⌜ r ≡ 5450 ⌝ }
+    ensures { λ r. ⌜ r ≡ imageLength ⌝ }
 {
     5450
 }
