@@ -1,13 +1,13 @@
+pub mod Calls
 pub mod P1
 pub mod P2
-pub mod Calls
 pub mod P3
 pub mod P4
 pub mod P5
 pub mod P6
 pub mod P7
 pub mod P8
-pub mod P12
 pub mod P9
 pub mod P10
 pub mod P11
+pub mod P12

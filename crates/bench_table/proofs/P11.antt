@@ -6,16 +6,13 @@ use mathlib.Core.Path.{_≡_, refl}
 use Rattle.types.specs.declared.Nwk.{Nwk}
 use Rattle.standard.specs.declared.RecordRoute.the-variants.{Direct, SourceRoute}
 use Rattle.standard.specs.Records.{noWay, recordFor, wayBy}
-use Rattle.standard.specs.Route.{nwk}
 
-abbrev d : Nwk
-d = nwk 9
+module _ (d a b c : Nwk) where
+  pub p11-two : wayBy 3 (some (recordFor d (a ∷ b ∷ []))) ≡ record { route = SourceRoute; relays = a ∷ b ∷ [] }
+  p11-two = refl
 
-pub p11-two : wayBy 3 (some (recordFor d (nwk 1 ∷ nwk 2 ∷ []))) ≡ record { route = SourceRoute; relays = nwk 1 ∷ nwk 2 ∷ [] }
-p11-two = refl
+  pub p11-three : wayBy 3 (some (recordFor d (a ∷ b ∷ c ∷ []))) ≡ noWay
+  p11-three = refl
 
-pub p11-three : wayBy 3 (some (recordFor d (nwk 1 ∷ nwk 2 ∷ nwk 4 ∷ []))) ≡ noWay
-p11-three = refl
-
-pub p11-none : wayBy 0 (some (recordFor d [])) ≡ record { route = Direct; relays = [] }
-p11-none = refl
+  pub p11-none : wayBy 0 (some (recordFor d [])) ≡ record { route = Direct; relays = [] }
+  p11-none = refl

@@ -1,20 +1,13 @@
 -- P9: "relays [S] from S, twice: changed both times."
--- S as a relay gets the empty record, so that S's record after the relays are written always differs from [S].
+-- S as a relay gets the empty record, so that S's record after the relays are written always differs from [S]: so it is whatever
+-- records are held, those after the first time among them.
 use mathlib.Core.Bool.{true}
-use mathlib.Core.List.{[], _∷_}
-use mathlib.Core.Path.{_≡_, refl}
+use mathlib.Core.List.{List, [], _∷_}
+use mathlib.Core.Path.{_≡_, ap}
 use Rattle.types.specs.declared.Nwk.{Nwk}
-use Rattle.standard.specs.Ordered.{lookup, put}
-use Rattle.standard.specs.Records.{relaysStored, recordStored, recordChanged}
-use Rattle.standard.specs.Route.{nwk}
+use Rattle.standard.specs.Records.{RouteRecord, addressKey, recordFor, relaysStored, otherRelays, recordChanged}
+use Rattle.flat_map.proofs.Ordered.{lookup-put-same}
 
-abbrev s : Nwk
-s = nwk 3
-
-pub p9-first : recordChanged s (s ∷ []) [] ≡ true
-unfolding lookup put relaysStored recordStored recordChanged
-p9-first = refl
-
-pub p9-second : recordChanged s (s ∷ []) (recordStored s (s ∷ []) []) ≡ true
-unfolding lookup put relaysStored recordStored recordChanged
-p9-second = refl
+pub p9-changed : (s : Nwk) (xs : List RouteRecord) → recordChanged s (s ∷ []) xs ≡ true
+unfolding recordChanged relaysStored
+p9-changed s xs = ap (otherRelays (s ∷ [])) (lookup-put-same addressKey (recordFor s []) xs)

@@ -9,36 +9,10 @@ use Rattle.numbers.specs.Said.{bad}
 use Rattle.world.specs.declared.World.{World}
 use Rattle.world.specs.declared.Reply.{Reply}
 use Rattle.world.specs.Worlds.{asked}
-use Rattle.table_lines.specs.Loaded.{resetCall, putCountersCall, putRouteCall, putDiscoveryCall, putNeighbourCall, putWaitingCall, setRouteCountCall, setDiscoveryCountCall, setRecordCountCall, setNeighbourCountCall, setWaitingCountCall, setRouteKeyCall, setDiscoveryKeyCall, setRecordKeyCall, setNeighbourKeyCall, setWaitingKeyCall}
+use Rattle.table_groups.specs.Groups.{setUp, damageBy}
 use Rattle.routing_groups.specs.Groups.{askRouting, changeRoutes, changeSearches, storeCall, storeAfter}
-use Rattle.decision_lines.specs.Lines.{clearCall, resolveCall, resolveDefaultCall}
+use Rattle.decision_lines.specs.Lines.{decideBy}
 use Rattle.neighbor_groups.specs.Groups.{askNeighbors, askChildren, listNeighbors, noteNeighbors, changeChildren}
-
--- The lines that set a state up.
-unfoldable pub setUp : World → ℕ → List ℕ → Reply
-setUp w n args =
-    cond (eqb n 0) resetCall
-    (cond (eqb n 3) (putCountersCall w args)
-    (cond (eqb n 4) (putRouteCall w args)
-    (cond (eqb n 5) (putDiscoveryCall w args)
-    (cond (eqb n 7) (putNeighbourCall w args)
-    (cond (eqb n 8) (putWaitingCall w args)
-    (asked w bad))))))
-
--- The lines that damage a state.
-unfoldable pub damageBy : World → ℕ → List ℕ → Reply
-damageBy w n args =
-    cond (eqb n 75) (setRouteCountCall w args)
-    (cond (eqb n 76) (setDiscoveryCountCall w args)
-    (cond (eqb n 77) (setRecordCountCall w args)
-    (cond (eqb n 78) (setNeighbourCountCall w args)
-    (cond (eqb n 79) (setWaitingCountCall w args)
-    (cond (eqb n 80) (setRouteKeyCall w args)
-    (cond (eqb n 81) (setDiscoveryKeyCall w args)
-    (cond (eqb n 82) (setRecordKeyCall w args)
-    (cond (eqb n 83) (setNeighbourKeyCall w args)
-    (cond (eqb n 84) (setWaitingKeyCall w args)
-    (asked w bad))))))))))
 
 -- the group of each number, 0 for what is no call here
 unfoldable pub groups : List ℕ
@@ -61,14 +35,6 @@ callPlain w g n args =
     (cond (eqb g 9) (setUp w n args)
     (cond (eqb g 10) (damageBy w n args)
     (asked w bad))))))))))
-
--- The decisions, which read the store.
-unfoldable pub decideBy : World → ℕ → List ℕ → List ℕ → Reply
-decideBy w n args store =
-    cond (eqb n 68) (clearCall w args)
-    (cond (eqb n 69) (resolveCall w args store)
-    (cond (eqb n 70) (resolveDefaultCall w args store)
-    (asked w bad)))
 
 -- The call of a number, and the store after it.
 unfoldable pub callOf : World → ℕ → List ℕ → List ℕ → Reply

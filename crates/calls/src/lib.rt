@@ -6,7 +6,7 @@ ghost use mathlib.Core.Path.{_≡_};
 ghost use Rattle.numbers.specs.Said.{spoken};
 ghost use Rattle.lines.specs.Lines.{lineSaid};
 ghost use Rattle.table_lines.specs.Loaded.{worldLines};
-ghost use Rattle.calls.specs.Groups.{setUp, damageBy, groupOf, callPlain, decideBy, callOf, storeOf};
+ghost use Rattle.calls.specs.Groups.{groupOf, callPlain, callOf, storeOf};
 
 // The group of each number, 0 for what is no call here.
 const GROUPS: [u64; 87] = [
@@ -99,70 +99,6 @@ const GROUPS: [u64; 87] = [
     0,
 ];
 
-// The lines that set a state up.
-pub fn set_up(world: World, number: u64, args: &[u64]) -> Reply
-    ensures { λ r. ⌜ r ≡ setUp world number (now (args .entry)) ⌝ }
-{
-    if number == 0 {
-        return table_lines::reset();
-    }
-    if number == 3 {
-        return table_lines::put_counters(world, args);
-    }
-    if number == 4 {
-        return table_lines::put_route(world, args);
-    }
-    if number == 5 {
-        return table_lines::put_discovery(world, args);
-    }
-    if number == 7 {
-        return table_lines::put_neighbour(world, args);
-    }
-    if number == 8 {
-        return table_lines::put_waiting(world, args);
-    }
-    let answer = numbers::no_call();
-    world::asked(world, answer)
-}
-
-// The lines that damage a state.
-pub fn damage(world: World, number: u64, args: &[u64]) -> Reply
-    ensures { λ r. ⌜ r ≡ damageBy world number (now (args .entry)) ⌝ }
-{
-    if number == 75 {
-        return table_lines::set_route_count(world, args);
-    }
-    if number == 76 {
-        return table_lines::set_discovery_count(world, args);
-    }
-    if number == 77 {
-        return table_lines::set_record_count(world, args);
-    }
-    if number == 78 {
-        return table_lines::set_neighbour_count(world, args);
-    }
-    if number == 79 {
-        return table_lines::set_waiting_count(world, args);
-    }
-    if number == 80 {
-        return table_lines::set_route_key(world, args);
-    }
-    if number == 81 {
-        return table_lines::set_discovery_key(world, args);
-    }
-    if number == 82 {
-        return table_lines::set_record_key(world, args);
-    }
-    if number == 83 {
-        return table_lines::set_neighbour_key(world, args);
-    }
-    if number == 84 {
-        return table_lines::set_waiting_key(world, args);
-    }
-    let answer = numbers::no_call();
-    world::asked(world, answer)
-}
-
 // The group of a number, 0 for what is no call here.
 pub fn group(number: u64) -> u64
     ensures { λ r. ⌜ r ≡ groupOf number ⌝ }
@@ -203,27 +139,10 @@ fn plain(world: World, group: u64, number: u64, args: &[u64]) -> Reply
         return neighbor_groups::change_children(world, number, args);
     }
     if group == 9 {
-        return set_up(world, number, args);
+        return table_groups::set_up(world, number, args);
     }
     if group == 10 {
-        return damage(world, number, args);
-    }
-    let answer = numbers::no_call();
-    world::asked(world, answer)
-}
-
-// The decisions, which read the store.
-fn decide(world: World, number: u64, args: &[u64], store: &[u16]) -> Reply
-    ensures { λ r. ⌜ r ≡ decideBy world number (now (args .entry)) (now (store .entry)) ⌝ }
-{
-    if number == 68 {
-        return decision_lines::clear_end_device_initiator_for_relay(world, args);
-    }
-    if number == 69 {
-        return decision_lines::resolve(world, args, store);
-    }
-    if number == 70 {
-        return decision_lines::resolve_default(world, args, store);
+        return table_groups::damage(world, number, args);
     }
     let answer = numbers::no_call();
     world::asked(world, answer)
@@ -239,7 +158,7 @@ pub fn call(world: World, number: u64, args: &[u64], store: &mut [u16]) -> Reply
         return routing_groups::store_call(world, number, args, store);
     }
     if g == 12 {
-        return decide(world, number, args, store);
+        return decision_lines::decide(world, number, args, store);
     }
     plain(world, g, number, args)
 }

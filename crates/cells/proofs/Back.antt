@@ -10,14 +10,10 @@ use native.Mathlib.Omega.{arith}
 use lib.Dec.{eqb}
 use lib.ListN.{length, drop, getD}
 use lib.Seq.{getD-drop, drop-drop, drop-at}
-use Rattle.numbers.specs.Read.{numberAt}
+use Rattle.numbers.specs.Read.{numberAt, listed}
 use Rattle.numbers.specs.Said.{flagNumber}
-use Rattle.cells.specs.Listed.{listed, keysAt}
-
--- every element of a list is so
-pub data Each {E : Type 0} (P : E → Type 0) : List E → Type 0 where
-  none : Each P []
-  one : {e : E} {es : List E} → P e → Each P es → Each P (e ∷ es)
+use Rattle.flat_map.specs.Table.{Each}
+use Rattle.cells.specs.Keys.{keysAt}
 
 -- the number at a place, where it is known what stands from an earlier place on
 pub there : (xs ys : List ℕ) (b k : ℕ) → drop b xs ≡ ys → numberAt xs (b + k) ≡ getD ys k 0
@@ -57,12 +53,12 @@ module _ {E : Type 0} (g : E → List ℕ) (w : ℕ) (r : List ℕ → ℕ → E
   rows-from : (es : List E) (xs rest : List ℕ) (b i : ℕ) → drop (b + i * w) xs ≡ flatMap g es ++ rest → Each P es → listed (λ k. r xs (b + k * w)) i (length es) ≡ es
   unfolding listed flatMap
   rows-from [] xs rest b i h a = refl
-  rows-from (e ∷ es) xs rest b i h (one p a) =
+  rows-from (e ∷ es) xs rest b i h a =
       let s : b + (i + 1) * w ≡ b + i * w + w = simp (add-mul, one-mul) (omega arith) in
       let h′ : drop (b + i * w) xs ≡ g e ++ (flatMap g es ++ rest) = h ∙ append-assoc (g e) (flatMap g es) rest in
       ap₂ (λ (x : E) (l : List E). x ∷ l)
-      (back e xs (flatMap g es ++ rest) (b + i * w) h′ p)
-      (rows-from es xs rest b (i + 1) (ap (λ (m : ℕ). drop m xs) s ∙ after (g e) (flatMap g es ++ rest) xs (b + i * w) w h′ (sized e)) a)
+      (back e xs (flatMap g es ++ rest) (b + i * w) h′ (a .0))
+      (rows-from es xs rest b (i + 1) (ap (λ (m : ℕ). drop m xs) s ∙ after (g e) (flatMap g es ++ rest) xs (b + i * w) w h′ (sized e)) (a .1))
 
   pub rows-back : (es : List E) (xs rest : List ℕ) (b n : ℕ) → drop b xs ≡ flatMap g es ++ rest → length es ≡ n → Each P es → listed (λ k. r xs (b + k * w)) 0 n ≡ es
   rows-back es xs rest b n h l a =

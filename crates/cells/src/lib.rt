@@ -4,7 +4,7 @@
 ghost use mathlib.Core.Path.{_≡_};
 ghost use Prim.Native.Nat.{_<_};
 ghost use lib.Seq.{sets};
-ghost use Rattle.cells.specs.Listed.{keysAt};
+ghost use Rattle.cells.specs.Keys.{keysAt};
 
 // Where each table's count stands; its keys and then its rows come after it.
 pub const ROUTES: usize = 5;

@@ -1,11 +1,11 @@
 -- What a call about children or a link status is given, read from numbers: values that may be given, lists, a child, a command.
 -- "OPT is `0` or `1 value`. LIST is `n x1 .. xn`." A count above the array's length stays as it is, and only what has a place is read.
 -- Assumes nothing.
-use Prim.Native.Nat.{ℕ, zero, suc, _+_, _*_, min}
+use Prim.Native.Nat.{ℕ, _+_, _*_, min}
 use mathlib.Core.Bool.{cond}
-use mathlib.Core.List.{List, [], _∷_, _++_}
+use mathlib.Core.List.{List}
 use Rattle.types.specs.declared.Eui64.{Eui64}
-use Rattle.numbers.specs.Read.{numberAt, byteAt, flagAt, nwkAt, eui64At}
+use Rattle.numbers.specs.Read.{numberAt, byteAt, flagAt, nwkAt, eui64At, listed}
 use Rattle.flat_map.specs.Rows.{pad}
 use Rattle.neighbor_queries.specs.declared.Eui64List.{Eui64List}
 use Rattle.neighbor_queries.specs.declared.LinkStatus.{LinkStatus}
@@ -49,17 +49,12 @@ childOf args = record {
   relationship = relationshipOf (numberAt args 5);
 }
 
--- f at each place below a count, in order
-abbrev pub upTo : {E : Type 0} → (ℕ → E) → ℕ → List E
-upTo f zero = []
-upTo f (suc n) = upTo f n ++ (f n ∷ [])
-
 -- the addresses after a count at the first place
 abbrev pub nameAt : List ℕ → ℕ → Eui64
 nameAt args i = eui64At args (i + 1)
 
 abbrev pub namesTo : List ℕ → ℕ → Eui64List
-namesTo args n = record { count = numberAt args 0; addresses = pad 64 noName (upTo (nameAt args) n) }
+namesTo args n = record { count = numberAt args 0; addresses = pad 64 noName (listed (nameAt args) 0 n) }
 
 unfoldable pub namesOf : List ℕ → Eui64List
 namesOf args = namesTo args (min (numberAt args 0) 64)
@@ -78,7 +73,7 @@ commandTo args n = record {
   «is_first_frame» = flagAt args 4;
   «is_last_frame» = flagAt args 5;
   count = numberAt args 7;
-  statuses = pad 31 noStatus (upTo (statusAt args) n);
+  statuses = pad 31 noStatus (listed (statusAt args) 0 n);
 }
 
 unfoldable pub commandOf : List ℕ → LinkStatusCommand

@@ -1,7 +1,7 @@
 -- Every call about children leaves a well-formed state well formed: it leaves the state, or makes a step on the rows that
 -- the table's laws keep fit. A joining child is sound, since its cost and samples are those it had or none.
 use Prim.Native.Nat.{ℕ, _≤_}
-use mathlib.Core.Bool.{Bool, true, false, cond, _&&_}
+use mathlib.Core.Bool.{true, false, _&&_}
 use mathlib.Core.Option.{Option, none, some}
 use mathlib.Core.Path.{_≡_, refl, sym, subst}
 use borrow.Author.Tests.{leb-true}
@@ -13,6 +13,7 @@ use Rattle.types.specs.declared.Sum.the-variants.{At, Past}
 use Rattle.types.specs.Clock.{timeSum}
 use Rattle.standard.specs.Ordered.{lookup, remove, countWith}
 use Rattle.standard.specs.Query.{first}
+use Rattle.standard.proofs.Picked.{by-test}
 use Rattle.flat_map.proofs.Every.{every-lookup}
 use Rattle.neighbor_table.specs.declared.NeighborEntry.{NeighborEntry}
 use Rattle.neighbor_table.specs.declared.NeighborLookup.{NeighborLookup}
@@ -48,11 +49,6 @@ attached-sound : (child : ChildDescriptor) (at : ℕ) (e : NeighborEntry) → is
 unfolding isSound
 attached-sound child at e h = h
 
--- what a test picks is well formed where both are
-pub either : {A : Type 0} (f : A → Neighbors) (b : Bool) (x y : A) → (b ≡ true → WellFormed (f x)) → (b ≡ false → WellFormed (f y)) → WellFormed (f (cond b x y))
-either f true x y p q = p refl
-either f false x y p q = q refl
-
 module _ (s : Neighbors) (w : WellFormed s) where
   fit : FitRows (rows s)
   fit = table-fit (s .table) (w .table)
@@ -69,7 +65,7 @@ module _ (s : Neighbors) (w : WellFormed s) where
 
   pub set-child-timeout-formed : (nwk : Nwk) (timeout configuration now : ℕ) → WellFormed (setChildTimeoutCore s nwk timeout configuration now .state)
   set-child-timeout-formed nwk timeout configuration now =
-      either (λ (o : TruthOutcome). o .state) (looked (first (fits (EndDeviceChildAt nwk)) (rows s)) .found) (retimedBy s nwk timeout configuration (timeSum now timeout)) (truth s false) (λ _. by (timeSum now timeout)) (λ _. w)
+      by-test (λ (o : TruthOutcome). WellFormed (o .state)) (looked (first (fits (EndDeviceChildAt nwk)) (rows s)) .found) (retimedBy s nwk timeout configuration (timeSum now timeout)) (truth s false) (λ _. by (timeSum now timeout)) w
     where
       by : (t : Sum) → WellFormed (retimedBy s nwk timeout configuration t .state)
       by (At t) =
@@ -81,11 +77,11 @@ module _ (s : Neighbors) (w : WellFormed s) where
   take-child-formed eui64 = go (looked (lookup neighborKey (eui64 .0) (rows s))) where
     go : (l : NeighborLookup) → WellFormed (takenIn s eui64 l .state)
     go l =
-        either (λ (o : NwkOutcome). o .state) (l .found && isChild (l .entry .relationship))
+        by-test (λ (o : NwkOutcome). WellFormed (o .state)) (l .found && isChild (l .entry .relationship))
         (record { answer = Is (l .entry .«network_address»); state = withRows s (remove neighborKey (eui64 .0) (rows s)) .state })
         (nothingTaken s)
         (λ _. rows-formed s _ w (fit-remove (rows s) fit (eui64 .0)))
-        (λ _. w)
+        w
 
   pub evict-timed-out-children-formed : (now : ℕ) → WellFormed (evictTimedOutChildrenCore s now .state)
   evict-timed-out-children-formed now = rows-formed s _ w (fit-keep (rows s) fit (misses (TimedOut now)))
@@ -100,9 +96,9 @@ module _ (s : Neighbors) (w : WellFormed s) where
 
     by : (t : Sum) → WellFormed (upsertedBy s child now t .state)
     by (At at) =
-        either (λ (o : Outcome). o .state) (leb (countWith neighborKey (child .eui64 .0) (rows s)) 64) _ _
+        by-test (λ (o : Outcome). WellFormed (o .state)) (leb (countWith neighborKey (child .eui64 .0) (rows s)) 64) _ _
         (λ e. rows-formed s _ w
         (fit-put (rows s) fit (attached child at begun) (attached-sound child at begun sound)
         (subst (λ (k : ℕ). countWith neighborKey k (rows s) ≤ 64) (sym (start-key (child .eui64) now (rows s))) (leb-true _ _ e))))
-        (λ _. w)
+        w
     by Past = w

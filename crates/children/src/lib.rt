@@ -173,6 +173,7 @@ pub fn refresh_child_timeout(
     }
 }
 
+// `refresh_child_timeout` on a state that is well formed.
 pub fn refresh_child_timeout_core(
     state: Neighbors,
     eui64: MaybeEui64,
@@ -209,6 +210,7 @@ pub fn set_child_timeout(
     }
 }
 
+// `set_child_timeout` on a state that is well formed.
 pub fn set_child_timeout_core(
     state: Neighbors,
     nwk: Nwk,
@@ -255,6 +257,7 @@ pub fn take_child(state: Neighbors, eui64: Eui64) -> NwkOutcome
     }
 }
 
+// `take_child` on a state that is well formed.
 pub fn take_child_core(state: Neighbors, eui64: Eui64) -> NwkOutcome
     requires { ⌜ WellFormed state ⌝ }
     ensures { λ r. ⌜ r ≡ takeChildCore state eui64 ⌝ }
@@ -289,6 +292,7 @@ pub fn evict_timed_out_children(state: Neighbors, now: u64) -> Removal
     }
 }
 
+// `evict_timed_out_children` on a state that is well formed.
 pub fn evict_timed_out_children_core(state: Neighbors, now: u64) -> Removal
     requires { ⌜ WellFormed state ⌝ }
     ensures { λ r. ⌜ r ≡ evictTimedOutChildrenCore state now ⌝ }
@@ -381,6 +385,7 @@ pub fn upsert_child(state: Neighbors, child: ChildDescriptor, now: u64) -> Outco
     }
 }
 
+// `upsert_child` on a state that is well formed.
 pub fn upsert_child_core(state: Neighbors, child: ChildDescriptor, now: u64) -> Outcome
     requires { ⌜ WellFormed state ⌝ }
     ensures { λ r. ⌜ r ≡ upsertChildCore state child now ⌝ }

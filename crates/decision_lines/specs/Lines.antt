@@ -1,7 +1,10 @@
 -- What each decision answers: the exported call on the numbers read, and its answer as numbers. The world stays.
 -- Assumes nothing.
 use Prim.Native.Nat.{ℕ}
+use mathlib.Core.Bool.{cond}
 use mathlib.Core.List.{List}
+use lib.Dec.{eqb}
+use Rattle.numbers.specs.Said.{bad}
 use Rattle.header_numbers.specs.Reading.{headerAt}
 use Rattle.relay_header.specs.Relayed.{cleared}
 use Rattle.next_hop.specs.Decision as decision
@@ -24,3 +27,11 @@ resolveCall w args store =
 unfoldable pub resolveDefaultCall : World → List ℕ → List ℕ → Reply
 resolveDefaultCall w args store =
     asked w (resolveSaid (decision.resolveDefault (w .routing) (w .neighbors) (headerAt args (pastMode args 0)) (modeAt args 0) store))
+
+-- the decisions by their numbers
+unfoldable pub decideBy : World → ℕ → List ℕ → List ℕ → Reply
+decideBy w n args store =
+    cond (eqb n 68) (clearCall w args)
+    (cond (eqb n 69) (resolveCall w args store)
+    (cond (eqb n 70) (resolveDefaultCall w args store)
+    (asked w bad)))

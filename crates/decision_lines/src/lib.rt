@@ -2,7 +2,7 @@
 use world::Reply;
 use world::World;
 ghost use mathlib.Core.Path.{_≡_};
-ghost use Rattle.decision_lines.specs.Lines.{clearCall, resolveCall, resolveDefaultCall};
+ghost use Rattle.decision_lines.specs.Lines.{clearCall, resolveCall, resolveDefaultCall, decideBy};
 
 // The end device initiator bit of a frame to be relayed.
 pub fn clear_end_device_initiator_for_relay(world: World, args: &[u64]) -> Reply
@@ -37,4 +37,21 @@ pub fn resolve_default(world: World, args: &[u64], store: &[u16]) -> Reply
     let header = header_numbers::header(args, decision_numbers::after_mode(args, 0));
     let said = next_hop::resolve_default(routing, neighbors, store, header, mode);
     world::asked(world, decision_numbers::resolve_answer(said))
+}
+
+// The decisions by their numbers.
+pub fn decide(world: World, number: u64, args: &[u64], store: &[u16]) -> Reply
+    ensures { λ r. ⌜ r ≡ decideBy world number (now (args .entry)) (now (store .entry)) ⌝ }
+{
+    if number == 68 {
+        return clear_end_device_initiator_for_relay(world, args);
+    }
+    if number == 69 {
+        return resolve(world, args, store);
+    }
+    if number == 70 {
+        return resolve_default(world, args, store);
+    }
+    let answer = numbers::no_call();
+    world::asked(world, answer)
 }

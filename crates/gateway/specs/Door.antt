@@ -2,10 +2,9 @@
 -- Assumes nothing.
 use Prim.Native.Nat.{ℕ}
 use mathlib.Core.Bool.{Bool, cond, not, _&&_}
-use mathlib.Core.List.{List, [], _∷_}
+use mathlib.Core.List.{List}
 use lib.Dec.{eqb, ltb}
 use lib.ListN.{length, replicate}
-use lib.Seq.{sets}
 use Rattle.types.specs.declared.Refusal.the-variants.{StateIllFormed}
 use Rattle.numbers.specs.declared.Answer.{Answer}
 use Rattle.numbers.specs.Said.{spoken, refusedBy, bad}
@@ -13,13 +12,9 @@ use Rattle.world.specs.declared.World.{World}
 use Rattle.world.specs.Worlds.{freshWorld}
 use Rattle.calls.specs.Groups.{groupOf, callOf, storeOf}
 use Rattle.words.specs.Words.{shaped}
-use Rattle.cells.specs.Layout.{storePlace, imageLength}
+use Rattle.cells.specs.Layout.{imageLength}
 use Rattle.image.specs.Good.{goodImage}
-use Rattle.image.specs.Image.{worldIn, storeIn, worldNumbers}
-
--- a world and a store put into an image
-unfoldable pub imageWith : World → List ℕ → List ℕ → List ℕ
-imageWith w store xs = sets (sets xs 0 (worldNumbers w)) storePlace store
+use Rattle.image.specs.Image.{worldIn, storeIn, imageWith, keptBy, answerWritten}
 
 -- a new image: 0 and the fresh world, or 8 and nothing where the length is wrong
 unfoldable pub newStatus : List ℕ → ℕ
@@ -35,10 +30,6 @@ storeLeft n store = cond (eqb n 0) (replicate 2048 0) store
 -- a call made on a world and on the image's store
 unfoldable pub madeAnswer : World → ℕ → List ℕ → List ℕ → Answer
 madeAnswer w n args xs = callOf w n args (storeIn xs) .answer
-
--- demand 1, "a refused call hands back the old state and an unchanged store": only a call that is answered, kind 0, writes the image
-unfoldable pub keptBy : ℕ → World → List ℕ → List ℕ → List ℕ
-keptBy kind w store xs = cond (eqb kind 0) (imageWith w store xs) xs
 
 unfoldable pub madeImage : World → ℕ → List ℕ → List ℕ → List ℕ
 madeImage w n args xs = keptBy (callOf w n args (storeIn xs) .answer .kind) (callOf w n args (storeIn xs) .world) (storeLeft n (storeOf w n args (storeIn xs))) xs
@@ -60,10 +51,6 @@ answerOf n args xs = cond (isCall n args) (calledAnswer n args xs) (spoken bad)
 
 unfoldable pub imageAfter : ℕ → List ℕ → List ℕ → List ℕ
 imageAfter n args xs = cond (isCall n args) (calledImage n args xs) xs
-
--- an answer as C reads it: its kind, its count, and 256 values, of which those after the count mean nothing
-unfoldable pub answerWritten : Answer → List ℕ → List ℕ
-answerWritten a ys = sets (sets ys 0 (a .kind ∷ a .numbers .count ∷ [])) 2 (a .numbers .values)
 
 -- the call: 8 and nothing where the answer has no room, else 0
 unfoldable pub callStatus : List ℕ → ℕ

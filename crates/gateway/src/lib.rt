@@ -4,7 +4,7 @@ use types::Refusal;
 use world::World;
 ghost use mathlib.Core.Path.{_≡_};
 ghost use Rattle.cells.specs.Layout.{imageLength};
-ghost use Rattle.gateway.specs.Door.{imageWith, newStatus, newImage, storeLeft, keptBy, madeAnswer, madeImage, isCall, calledAnswer, calledImage, answerOf, imageAfter, answerWritten, callStatus, callImage, callAnswer};
+ghost use Rattle.gateway.specs.Door.{newStatus, newImage, storeLeft, madeAnswer, madeImage, isCall, calledAnswer, calledImage, answerOf, imageAfter, callStatus, callImage, callAnswer};
 
 // How many numbers an image has.
 #[no_mangle]
@@ -22,14 +22,6 @@ pub extern "C" fn warpteasel_answer_length() -> usize
     258
 }
 
-// A world and a relay store put into an image.
-fn keep(world: World, store: &[u16], image: &mut [u64])
-    ensures { λ _. ⌜ now (image .exit) ≡ imageWith world (now (store .entry)) (now (image .entry)) ⌝ }
-{
-    image::write_world(world, image);
-    image::store::write_store(store, image);
-}
-
 // A fresh world with an empty relay store. A wrong length is answered 8, and nothing is written.
 #[no_mangle]
 pub extern "C" fn warpteasel_new(image: &mut [u64]) -> u64
@@ -41,7 +33,7 @@ pub extern "C" fn warpteasel_new(image: &mut [u64]) -> u64
     }
     let world = world::fresh();
     let store = [0u16; 2048];
-    keep(world, &store, image);
+    image::keep(world, &store, image);
     0
 }
 
@@ -55,16 +47,6 @@ fn left(number: u64, store: [u16; 2048]) -> [u16; 2048]
     store
 }
 
-// What a call leaves, put into the image if the call was answered; one that is refused or bad leaves the image alone.
-fn keep_answered(kind: u8, world: World, store: &[u16], image: &mut [u64])
-    ensures { λ _. ⌜ now (image .exit) ≡ keptBy kind world (now (store .entry)) (now (image .entry)) ⌝ }
-{
-    if kind != 0 {
-        return;
-    }
-    keep(world, store, image);
-}
-
 // A call made on a world and on the store of the image, which is left as the call leaves them.
 fn made(world: World, number: u64, args: &[u64], image: &mut [u64]) -> Answer
     ensures { λ r. ⌜ r ≡ madeAnswer world number (now (args .entry)) (now (image .entry)) ⌝ }
@@ -75,7 +57,7 @@ fn made(world: World, number: u64, args: &[u64], image: &mut [u64]) -> Answer
     let after = reply.world;
     let answer = reply.answer;
     let rest = left(number, store);
-    keep_answered(answer.kind, after, &rest, image);
+    image::keep_answered(answer.kind, after, &rest, image);
     answer
 }
 
@@ -111,16 +93,6 @@ fn answered(number: u64, args: &[u64], image: &mut [u64]) -> Answer
     numbers::no_call()
 }
 
-// An answer's kind, count and values, one after another.
-fn write_answer(out: &mut [u64], a: Answer)
-    ensures { λ _. ⌜ now (out .exit) ≡ answerWritten a (now (out .entry)) ⌝ }
-{
-    let n = a.numbers;
-    let head = [a.kind as u64, n.count as u64];
-    cells::put_each(out, 0, &head);
-    cells::put_each(out, 2, &n.values);
-}
-
 // The call of a number on an image. An answer with no room is answered 8, and nothing is written.
 #[no_mangle]
 pub extern "C" fn warpteasel_call(
@@ -137,6 +109,6 @@ pub extern "C" fn warpteasel_call(
         return 8;
     }
     let a = answered(number, args, image);
-    write_answer(answer, a);
+    image::write_answer(answer, a);
     0
 }

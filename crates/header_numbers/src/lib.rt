@@ -9,7 +9,7 @@ use frame::OptionalEui64;
 use numbers::Numbers;
 ghost use mathlib.Core.Path.{_≡_};
 ghost use Prim.Native.Nat.{_<_};
-ghost use Rattle.numbers.specs.Said.{flagNumber, pushed, pushedAll};
+ghost use Rattle.numbers.specs.Said.{pushed, pushedAll};
 ghost use Rattle.frame.specs.Numbers.{frameTypeNumber, discoveryNumber, nameNumbers, byteNumbers, controlNumbers, routeNumbers, headerNumbers};
 ghost use Rattle.header_numbers.specs.Reading.{frameTypeOf, discoveryOf, controlAt, optionalEui64At, optionalByteAt, routeAt, headerAt};
 
@@ -137,13 +137,6 @@ pub fn header(args: &[u64], from: usize) -> NwkHeader
     }
 }
 
-// A bool more.
-fn push_bit(n: Numbers, b: bool) -> Numbers
-    ensures { λ r. ⌜ r ≡ pushed n (flagNumber b) ⌝ }
-{
-    neighbor_values::push_flag(n, b)
-}
-
 fn push_frame_type(n: Numbers, kind: NwkFrameType) -> Numbers
     ensures { λ r. ⌜ r ≡ pushed n (frameTypeNumber kind) ⌝ }
 {
@@ -164,12 +157,12 @@ fn push_control(n: Numbers, control: NwkFrameControl) -> Numbers
     let a = push_frame_type(n, kind);
     let b = neighbor_values::push_byte(a, control.protocol_version);
     let c = push_discovery(b, discovery);
-    let d = push_bit(c, control.multicast);
-    let e = push_bit(d, control.security);
-    let f = push_bit(e, control.source_route);
-    let g = push_bit(f, control.destination);
-    let h = push_bit(g, control.extended_source);
-    let i = push_bit(h, control.end_device_initiator);
+    let d = neighbor_values::push_flag(c, control.multicast);
+    let e = neighbor_values::push_flag(d, control.security);
+    let f = neighbor_values::push_flag(e, control.source_route);
+    let g = neighbor_values::push_flag(f, control.destination);
+    let h = neighbor_values::push_flag(g, control.extended_source);
+    let i = neighbor_values::push_flag(h, control.end_device_initiator);
     neighbor_values::push_byte(i, control.reserved1)
 }
 

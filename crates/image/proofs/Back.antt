@@ -8,7 +8,8 @@ use native.Mathlib.Omega.{arith}
 use lib.ListN.{length, drop}
 use lib.Seq.{sets, sets-eq}
 use Rattle.world.specs.declared.World.{World}
-use Rattle.cells.proofs.Back.{Each, after, there, cut-back}
+use Rattle.flat_map.specs.Table.{Each}
+use Rattle.cells.proofs.Back.{after, there, cut-back}
 use Rattle.route_image.specs.Routes.{routesNumbers, discoveriesNumbers, recordsNumbers}
 use Rattle.route_image.proofs.Back.{RouteFits, DiscoveryFits, RecordFits, routes-back, discoveries-back, records-back}
 use Rattle.neighbor_image.specs.Neighbors.{waitingTableNumbers}

@@ -8,10 +8,10 @@ use native.Mathlib.Nat.{add-zero}
 use native.Mathlib.Omega.{arith}
 use lib.ListN.{length, drop, length-append}
 use lib.Seq.{sets, sets-eq}
-use Rattle.numbers.specs.Read.{numberAt}
+use Rattle.numbers.specs.Read.{numberAt, listed}
+use Rattle.flat_map.specs.Table.{Each}
 use Rattle.world.specs.declared.World.{World}
-use Rattle.cells.specs.Listed.{listed}
-use Rattle.cells.proofs.Back.{Each, one, after, first-there, cut-back}
+use Rattle.cells.proofs.Back.{after, first-there, cut-back}
 use Rattle.cells.proofs.Writing.{put-both}
 use Rattle.neighbor_image.specs.Neighbors.{waitingTableNumbers}
 use Rattle.neighbor_image.specs.Neighbors as tables
@@ -26,11 +26,11 @@ Address n = n < 65536
 addresses-from : (store xs rest : List ℕ) (b i : ℕ) → drop (b + i) xs ≡ store ++ rest → Each Address store → listed (λ k. numberAt xs (b + k) % 65536) i (length store) ≡ store
 unfolding listed
 addresses-from [] xs rest b i h a = refl
-addresses-from (n ∷ store) xs rest b i h (one p a) =
+addresses-from (n ∷ store) xs rest b i h a =
     let s : b + (i + 1) ≡ b + i + 1 = omega arith in
     ap₂ (λ (x : ℕ) (l : List ℕ). x ∷ l)
-    (cut-back 65536 (first-there xs (n ∷ store ++ rest) (b + i) h) p)
-    (addresses-from store xs rest b (i + 1) (ap (λ (m : ℕ). drop m xs) s ∙ after (n ∷ []) (store ++ rest) xs (b + i) 1 h refl) a)
+    (cut-back 65536 (first-there xs (n ∷ store ++ rest) (b + i) h) (a .0))
+    (addresses-from store xs rest b (i + 1) (ap (λ (m : ℕ). drop m xs) s ∙ after (n ∷ []) (store ++ rest) xs (b + i) 1 h refl) (a .1))
 
 -- a store that stands in its place is read
 pub store-there : (store xs rest : List ℕ) → drop 3402 xs ≡ store ++ rest → length store ≡ 2048 → Each Address store → storeIn xs ≡ store

@@ -7,7 +7,7 @@ use native.Mathlib.Nat.{zero-mul, suc-mul, add-comm}
 use native.Mathlib.Omega.{arith}
 use lib.ListN.{length, length-append}
 use Rattle.route_answers.specs.Values.{routeNumbers, discoveryNumbers}
-use Rattle.neighbor_values.specs.Values.{neighborNumbers}
+use Rattle.neighbor_values.specs.Values.{neighborNumbers, waitingNumbers}
 use Rattle.route_table.specs.declared.RouteTable.{RouteTable}
 use Rattle.discovery_table.specs.declared.DiscoveryTable.{DiscoveryTable}
 use Rattle.record_table.specs.declared.RecordTable.{RecordTable}
@@ -16,7 +16,7 @@ use Rattle.waiting_table.specs.declared.WaitingTable.{WaitingTable}
 use Rattle.routing.specs.declared.Routing.{Routing}
 use Rattle.image.specs.Image.{routingNumbers, headNumbers}
 use Rattle.route_image.specs.Routes.{routesNumbers, discoveriesNumbers, recordsNumbers, recordNumbers}
-use Rattle.neighbor_image.specs.Neighbors.{neighborsNumbers, waitingTableNumbers, waitingNumbers}
+use Rattle.neighbor_image.specs.Neighbors.{neighborsNumbers, waitingTableNumbers}
 
 rows-long : {E : Type 0} (g : E → List ℕ) (w : ℕ) → ((e : E) → length (g e) ≡ w) → (es : List E) → length (flatMap g es) ≡ length es * w
 unfolding flatMap

@@ -1,10 +1,13 @@
--- The world that an image holds, and the numbers that a world is written as, in the layout's order.
+-- The world that an image holds, and the numbers that a world is written as, in the layout's order; what is put into an image, and an answer's numbers.
 -- Assumes nothing.
 use Prim.Native.Nat.{ℕ, _+_, _%_}
+use mathlib.Core.Bool.{cond}
 use mathlib.Core.List.{List, [], _∷_, _++_}
-use Rattle.numbers.specs.Read.{numberAt, byteAt}
+use lib.Dec.{eqb}
+use lib.Seq.{sets}
+use Rattle.numbers.specs.declared.Answer.{Answer}
+use Rattle.numbers.specs.Read.{numberAt, byteAt, listed}
 use Rattle.cells.specs.Layout.{imageMark, imageVersion, storePlace}
-use Rattle.cells.specs.Listed.{listed}
 use Rattle.route_image.specs.Routes.{routesAt, discoveriesAt, recordsAt, routesNumbers, discoveriesNumbers, recordsNumbers}
 use Rattle.neighbor_image.specs.Neighbors.{neighborsAt, waitingAt, waitingTableNumbers}
 use Rattle.neighbor_image.specs.Neighbors as tables
@@ -46,3 +49,15 @@ neighborsNumbers s = tables.neighborsNumbers (s .table) ++ waitingTableNumbers (
 -- a whole world, from place 0 on: 3,402 numbers, after which the relay store stands
 unfoldable pub worldNumbers : World → List ℕ
 worldNumbers w = routingNumbers (w .routing) ++ neighborsNumbers (w .neighbors)
+
+-- a world and a store put into an image
+unfoldable pub imageWith : World → List ℕ → List ℕ → List ℕ
+imageWith w store xs = sets (sets xs 0 (worldNumbers w)) storePlace store
+
+-- demand 1, "a refused call hands back the old state and an unchanged store": only a call that is answered, kind 0, writes the image
+unfoldable pub keptBy : ℕ → World → List ℕ → List ℕ → List ℕ
+keptBy kind w store xs = cond (eqb kind 0) (imageWith w store xs) xs
+
+-- an answer as C reads it: its kind, its count, and 256 values, of which those after the count mean nothing
+unfoldable pub answerWritten : Answer → List ℕ → List ℕ
+answerWritten a ys = sets (sets ys 0 (a .kind ∷ a .numbers .count ∷ [])) 2 (a .numbers .values)

@@ -3,13 +3,14 @@ mod good;
 pub mod store;
 
 use neighbors::Neighbors;
+use numbers::Answer;
 use routing::Routing;
 use world::World;
 ghost use mathlib.Core.Path.{_≡_};
 ghost use lib.Seq.{sets};
 ghost use Rattle.cells.specs.Layout.{neighborsPlace};
 ghost use Rattle.image.specs.Good.{goodImage};
-ghost use Rattle.image.specs.Image.{routingIn, neighborsIn, worldIn, routingNumbers, neighborsNumbers, worldNumbers};
+ghost use Rattle.image.specs.Image.{routingIn, neighborsIn, worldIn, routingNumbers, neighborsNumbers, worldNumbers, imageWith, keptBy, answerWritten};
 
 // What is read from an image: whether it is good, and the world, which means something only where it is.
 pub struct Read {
@@ -98,4 +99,32 @@ pub fn write_world(world: World, image: &mut [u64])
     let neighbors = world.neighbors;
     write_routing(image, routing);
     write_neighbors(image, neighbors);
+}
+
+// A world and a relay store put into an image.
+pub fn keep(world: World, store: &[u16], image: &mut [u64])
+    ensures { λ _. ⌜ now (image .exit) ≡ imageWith world (now (store .entry)) (now (image .entry)) ⌝ }
+{
+    write_world(world, image);
+    store::write_store(store, image);
+}
+
+// What a call leaves, put into the image if the call was answered; one that is refused or bad leaves the image alone.
+pub fn keep_answered(kind: u8, world: World, store: &[u16], image: &mut [u64])
+    ensures { λ _. ⌜ now (image .exit) ≡ keptBy kind world (now (store .entry)) (now (image .entry)) ⌝ }
+{
+    if kind != 0 {
+        return;
+    }
+    keep(world, store, image);
+}
+
+// An answer's kind, count and values, one after another.
+pub fn write_answer(out: &mut [u64], a: Answer)
+    ensures { λ _. ⌜ now (out .exit) ≡ answerWritten a (now (out .entry)) ⌝ }
+{
+    let n = a.numbers;
+    let head = [a.kind as u64, n.count as u64];
+    cells::put_each(out, 0, &head);
+    cells::put_each(out, 2, &n.values);
 }

@@ -67,6 +67,7 @@ pub fn record_lqa(state: Neighbors, sender: Nwk, lqi: u8) -> Outcome
     }
 }
 
+// `record_lqa` on a state that is well formed.
 pub fn record_lqa_core(state: Neighbors, sender: Nwk, lqi: u8) -> Outcome
     requires { ⌜ WellFormed state ⌝ }
     ensures { λ r. ⌜ r ≡ recordLqaCore state sender lqi ⌝ }

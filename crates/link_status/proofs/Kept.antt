@@ -19,6 +19,7 @@ use Rattle.ring_buffer.specs.declared.RingBuffer.{RingBuffer}
 use Rattle.ring_buffer.specs.Ring as ring
 use Rattle.ring_buffer.proofs.Ring.{fresh-well-formed, push-well-formed}
 use Rattle.ring_buffer.proofs.Shapes.{tells-well-formed}
+use Rattle.standard.proofs.Picked.{by-test}
 use Rattle.flat_map.specs.Table.{every}
 use Rattle.flat_map.proofs.Every.{both-so, left-so, right-so, every-lookup}
 use Rattle.flat_map.proofs.Ordered.{lookup-key, count-with-found}
@@ -35,7 +36,6 @@ use Rattle.neighbors.specs.declared.Neighbors.{Neighbors}
 use Rattle.neighbors.specs.State.{WellFormed, rows, waits}
 use Rattle.children.specs.declared.NwkOutcome.{NwkOutcome}
 use Rattle.children.specs.Calls.{refusedTaken}
-use Rattle.children.proofs.Kept.{either}
 use Rattle.link_status.specs.declared.LinkStatusCommand.{LinkStatusCommand}
 use Rattle.link_status.specs.declared.Tally.{Tally}
 use Rattle.link_status.specs.Statuses.{costsFit, statusesOf, counted, tallied, isLiveAt}
@@ -99,9 +99,9 @@ module _ (s : Neighbors) (w : WellFormed s) (own nwk : Nwk) (command : LinkStatu
   admitted-formed name lqi = by (timeSum now 4294967295000) where
     by : (t : Sum) → WellFormed (admittedBy s own name nwk lqi command now t .state)
     by (At at) =
-        either (λ (o : NwkOutcome). o .state) (leb (countWith neighborKey (name .0) (rows s)) 64) (digested s own nwk command now (newRouter name nwk at now (samplesOf nwk lqi (waits s)))) (refusedTaken s NeighborTableFull)
+        by-test (λ (o : NwkOutcome). WellFormed (o .state)) (leb (countWith neighborKey (name .0) (rows s)) 64) (digested s own nwk command now (newRouter name nwk at now (samplesOf nwk lqi (waits s)))) (refusedTaken s NeighborTableFull)
         (λ e. digested-formed (newRouter name nwk at now (samplesOf nwk lqi (waits s))) (new-sound name nwk at now lqi (waits s) (w .pending .sound)) (subst (λ (k : ℕ). countWith neighborKey k (rows s) ≤ 64) (sym (new-key name nwk at now (samplesOf nwk lqi (waits s)))) (leb-true _ _ e)))
-        (λ _. w)
+        w
     by Past = w
 
   heard-formed : (name : Eui64) (lqi : ℕ) → WellFormed (heardIn s own name nwk lqi command now (neighbours.looked (lookup neighborKey (name .0) (rows s))) .state)

@@ -358,6 +358,7 @@ pub fn on_link_status(
     }
 }
 
+// `on_link_status` on a state that is well formed.
 pub fn on_link_status_core(
     state: Neighbors,
     own: Nwk,

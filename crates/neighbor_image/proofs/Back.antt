@@ -13,10 +13,11 @@ use Rattle.waiting_table.specs.declared.WaitingEntry.{WaitingEntry}
 use Rattle.waiting_table.specs.declared.WaitingTable.{WaitingTable}
 use Rattle.neighbor_values.specs.Kinds.{deviceTypeOf, relationshipOf}
 use Rattle.neighbor_values.specs.Reading.{samplesAt, neighborAt, waitingEntryAt}
-use Rattle.neighbor_values.specs.Values.{neighborNumbers, nameNumbers, samplesNumbers, linkNumbers, routerNumbers}
+use Rattle.neighbor_values.specs.Values.{neighborNumbers, nameNumbers, samplesNumbers, linkNumbers, routerNumbers, waitingNumbers}
 use Rattle.neighbor_values.proofs.Numbered.{device-type-back, relationship-back}
-use Rattle.cells.proofs.Back.{Each, after, there, first-there, cut-back, flag-back, keys-back, rows-back, keys-part, rows-part}
-use Rattle.neighbor_image.specs.Neighbors.{waitingNumbers, neighborsAt, waitingAt, neighborsNumbers, waitingTableNumbers}
+use Rattle.flat_map.specs.Table.{Each}
+use Rattle.cells.proofs.Back.{after, there, first-there, cut-back, flag-back, keys-back, rows-back, keys-part, rows-part}
+use Rattle.neighbor_image.specs.Neighbors.{neighborsAt, waitingAt, neighborsNumbers, waitingTableNumbers}
 
 -- samples that fit: three bytes, their count and the next place
 pub record SamplesFit (r : RingBuffer) : Type 0 where

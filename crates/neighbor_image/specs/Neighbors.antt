@@ -3,18 +3,13 @@
 -- Assumes nothing.
 use Prim.Native.Nat.{ℕ, _+_, _*_}
 use mathlib.Core.List.{List, _∷_, _++_, flatMap}
-use Rattle.numbers.specs.Read.{numberAt}
+use Rattle.numbers.specs.Read.{numberAt, listed}
 use Rattle.neighbor_table.specs.declared.NeighborTable.{NeighborTable}
-use Rattle.waiting_table.specs.declared.WaitingEntry.{WaitingEntry}
 use Rattle.waiting_table.specs.declared.WaitingTable.{WaitingTable}
 use Rattle.neighbor_values.specs.Reading.{neighborAt, waitingEntryAt}
-use Rattle.neighbor_values.specs.Values.{neighborNumbers, samplesNumbers}
+use Rattle.neighbor_values.specs.Values.{neighborNumbers, waitingNumbers}
 use Rattle.cells.specs.Layout.{neighborsPlace, neighborRowsPlace, waitingPlace, waitingRowsPlace}
-use Rattle.cells.specs.Listed.{listed, keysAt}
-
--- a waiting entry's numbers
-abbrev pub waitingNumbers : WaitingEntry → List ℕ
-waitingNumbers e = e .«network_address» .0 ∷ samplesNumbers (e .lqas)
+use Rattle.cells.specs.Keys.{keysAt}
 
 -- a table whose rows are read from the image: its count, its keys after it and then its rows
 unfoldable pub neighborsAt : List ℕ → NeighborTable

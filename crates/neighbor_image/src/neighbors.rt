@@ -6,7 +6,7 @@ ghost use mathlib.Core.Path.{_≡_};
 ghost use mathlib.Core.List.{flatMap};
 ghost use Prim.Native.Nat.{_<_, _+_, _*_};
 ghost use lib.Seq.{sets};
-ghost use Rattle.cells.specs.Listed.{listed};
+ghost use Rattle.numbers.specs.Read.{listed};
 ghost use Rattle.neighbor_values.specs.Reading.{neighborAt};
 ghost use Rattle.neighbor_values.specs.Values.{neighborNumbers};
 ghost use Rattle.neighbor_values.specs.Values.{nameNumbers, samplesNumbers, linkNumbers, routerNumbers};

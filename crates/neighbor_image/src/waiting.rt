@@ -6,9 +6,10 @@ ghost use mathlib.Core.Path.{_≡_};
 ghost use mathlib.Core.List.{flatMap};
 ghost use Prim.Native.Nat.{_<_, _+_, _*_};
 ghost use lib.Seq.{sets};
-ghost use Rattle.cells.specs.Listed.{listed};
+ghost use Rattle.numbers.specs.Read.{listed};
 ghost use Rattle.neighbor_values.specs.Reading.{waitingEntryAt};
-ghost use Rattle.neighbor_image.specs.Neighbors.{waitingAt, waitingTableNumbers, waitingNumbers};
+ghost use Rattle.neighbor_values.specs.Values.{waitingNumbers};
+ghost use Rattle.neighbor_image.specs.Neighbors.{waitingAt, waitingTableNumbers};
 
 // A row put from a place on.
 fn write_waiting_entry(image: &mut [u64], base: usize, e: WaitingEntry)

@@ -8,14 +8,14 @@ use Rattle.neighbor_table.specs.declared.NeighborEntry.{NeighborEntry}
 use Rattle.neighbor_table.specs.declared.NeighborTable.{NeighborTable}
 use Rattle.waiting_table.specs.declared.WaitingEntry.{WaitingEntry}
 use Rattle.waiting_table.specs.declared.WaitingTable.{WaitingTable}
-use Rattle.neighbor_values.specs.Values.{neighborNumbers, samplesNumbers}
+use Rattle.neighbor_values.specs.Values.{neighborNumbers, waitingNumbers}
 use Rattle.neighbors.specs.declared.Neighbors.{Neighbors}
 
 abbrev pub neighborLine : NeighborEntry → List ℕ
 neighborLine e = 7 ∷ neighborNumbers e
 
 abbrev pub waitingLine : WaitingEntry → List ℕ
-waitingLine e = 8 ∷ e .«network_address» .0 ∷ samplesNumbers (e .lqas)
+waitingLine e = 8 ∷ waitingNumbers e
 
 unfoldable pub neighborRows : NeighborTable → List (List ℕ)
 neighborRows t = map neighborLine (take (t .count) (t .entries))

@@ -37,7 +37,7 @@ fn waiting_line(t: WaitingTable, i: usize) -> Answer
 fn from_waiting(t: WaitingTable, i: usize) -> Answer
     ensures { λ r. ⌜ r ≡ spoken (lineSaid (waitingRows t) i) ⌝ }
 {
-    let n = lines::held(t.count, 64);
+    let n = numbers::at_most(t.count, 64);
     if n <= i {
         return numbers::no_call();
     }
@@ -49,7 +49,7 @@ pub fn line(s: Neighbors, i: usize) -> Answer
     ensures { λ r. ⌜ r ≡ spoken (lineSaid (neighborLines s) i) ⌝ }
 {
     let t = s.table;
-    let n = lines::held(t.count, 64);
+    let n = numbers::at_most(t.count, 64);
     if i < n {
         return neighbor_line(t, i);
     }

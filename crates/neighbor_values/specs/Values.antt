@@ -1,8 +1,8 @@
 -- The values of a neighbour, a child, a link status and of lists of them, in the order in which a script takes and prints them.
--- Document 01, "How each place should look": "a definition gives this paper's number and values for each of its cases".
+-- Document 01, "How flatMap place should look": "a definition gives this paper's number and values for flatMap of its cases".
 -- Assumes nothing.
 use Prim.Native.Nat.{ℕ}
-use mathlib.Core.List.{List, [], _∷_, _++_}
+use mathlib.Core.List.{List, [], _∷_, _++_, flatMap}
 use lib.ListN.{getD, take}
 use Rattle.types.specs.declared.Eui64.{Eui64}
 use Rattle.types.specs.declared.Nwk.{Nwk}
@@ -10,6 +10,7 @@ use Rattle.numbers.specs.Said.{flagNumber}
 use Rattle.ring_buffer.specs.declared.RingBuffer.{RingBuffer}
 use Rattle.neighbor_table.specs.declared.NeighborEntry.{NeighborEntry}
 use Rattle.neighbor_table.specs.Entry.{deviceTypeNumber, relationshipNumber}
+use Rattle.waiting_table.specs.declared.WaitingEntry.{WaitingEntry}
 use Rattle.neighbor_queries.specs.declared.Child.{Child}
 use Rattle.neighbor_queries.specs.declared.LinkStatus.{LinkStatus}
 use Rattle.neighbor_queries.specs.declared.ChildList.{ChildList}
@@ -62,6 +63,10 @@ routerNumbers e =
 abbrev pub neighborNumbers : NeighborEntry → List ℕ
 neighborNumbers e = nameNumbers e ++ samplesNumbers (e .lqas) ++ linkNumbers e ++ routerNumbers e
 
+-- a sender whose samples wait, 6 values
+abbrev pub waitingNumbers : WaitingEntry → List ℕ
+waitingNumbers e = e .«network_address» .0 ∷ samplesNumbers (e .lqas)
+
 abbrev pub childNumbers : Child → List ℕ
 childNumbers c = c .eui64 .0 ∷ c .«network_address» .0 ∷ []
 
@@ -74,20 +79,15 @@ eui64Numbers a = a .0 ∷ []
 abbrev pub nwkNumbers : Nwk → List ℕ
 nwkNumbers a = a .0 ∷ []
 
--- the values of each element, in their order
-abbrev pub each : {E : Type 0} → (E → List ℕ) → List E → List ℕ
-each f [] = []
-each f (x ∷ xs) = f x ++ each f xs
-
 -- the lists: their count, then the elements
 abbrev pub childrenNumbers : ChildList → List ℕ
-childrenNumbers l = l .count ∷ each childNumbers (take (l .count) (l .children))
+childrenNumbers l = l .count ∷ flatMap childNumbers (take (l .count) (l .children))
 
 abbrev pub eui64sNumbers : Eui64List → List ℕ
-eui64sNumbers l = l .count ∷ each eui64Numbers (take (l .count) (l .addresses))
+eui64sNumbers l = l .count ∷ flatMap eui64Numbers (take (l .count) (l .addresses))
 
 abbrev pub nwksNumbers : NwkList → List ℕ
-nwksNumbers l = l .count ∷ each nwkNumbers (take (l .count) (l .addresses))
+nwksNumbers l = l .count ∷ flatMap nwkNumbers (take (l .count) (l .addresses))
 
 abbrev pub statusesNumbers : LinkStatusList → List ℕ
-statusesNumbers l = l .count ∷ each statusNumbers (take (l .count) (l .statuses))
+statusesNumbers l = l .count ∷ flatMap statusNumbers (take (l .count) (l .statuses))

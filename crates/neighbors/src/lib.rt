@@ -313,6 +313,7 @@ impl Neighbors {
         }
     }
 
+    // `link` on a state that is well formed.
     pub fn link_core(self, nwk: Nwk) -> LinkAnswer
         requires { ⌜ WellFormed self ⌝ }
         ensures { λ r. ⌜ r ≡ linkCore self nwk ⌝ }
@@ -332,6 +333,7 @@ impl Neighbors {
         }
     }
 
+    // `count` on a state that is well formed.
     pub fn count_core(self) -> Count
         requires { ⌜ WellFormed self ⌝ }
         ensures { λ r. ⌜ r ≡ countCore self ⌝ }
@@ -351,6 +353,7 @@ impl Neighbors {
         }
     }
 
+    // `entry_at` on a state that is well formed.
     pub fn entry_at_core(self, place: usize) -> EntryAnswer
         requires { ⌜ WellFormed self ⌝ }
         ensures { λ r. ⌜ r ≡ entryAtCore self place ⌝ }
@@ -370,6 +373,7 @@ impl Neighbors {
         }
     }
 
+    // `has_network_address` on a state that is well formed.
     pub fn has_network_address_core(self, nwk: Nwk) -> Truth
         requires { ⌜ WellFormed self ⌝ }
         ensures { λ r. ⌜ r ≡ hasNetworkAddressCore self nwk ⌝ }
@@ -390,6 +394,7 @@ impl Neighbors {
         }
     }
 
+    // `end_device_child_eui64` on a state that is well formed.
     pub fn end_device_child_eui64_core(self, nwk: Nwk) -> Eui64Answer
         requires { ⌜ WellFormed self ⌝ }
         ensures { λ r. ⌜ r ≡ endDeviceChildEui64Core self nwk ⌝ }
@@ -409,6 +414,7 @@ impl Neighbors {
         }
     }
 
+    // `sleepy_child_eui64` on a state that is well formed.
     pub fn sleepy_child_eui64_core(self, nwk: Nwk) -> Eui64Answer
         requires { ⌜ WellFormed self ⌝ }
         ensures { λ r. ⌜ r ≡ sleepyChildEui64Core self nwk ⌝ }
@@ -428,6 +434,7 @@ impl Neighbors {
         }
     }
 
+    // `sleepy_children` on a state that is well formed.
     pub fn sleepy_children_core(self) -> ChildrenAnswer
         requires { ⌜ WellFormed self ⌝ }
         ensures { λ r. ⌜ r ≡ sleepyChildrenCore self ⌝ }
@@ -451,6 +458,7 @@ impl Neighbors {
         }
     }
 
+    // `contains` on a state that is well formed.
     pub fn contains_core(self, eui64: Eui64) -> Truth
         requires { ⌜ WellFormed self ⌝ }
         ensures { λ r. ⌜ r ≡ containsCore self eui64 ⌝ }
@@ -471,6 +479,7 @@ impl Neighbors {
         }
     }
 
+    // `device_capability` on a state that is well formed.
     pub fn device_capability_core(self, eui64: Eui64) -> Capability
         requires { ⌜ WellFormed self ⌝ }
         ensures { λ r. ⌜ r ≡ deviceCapabilityCore self eui64 ⌝ }
@@ -490,6 +499,7 @@ impl Neighbors {
         }
     }
 
+    // `end_device_child_count` on a state that is well formed.
     pub fn end_device_child_count_core(self) -> Count
         requires { ⌜ WellFormed self ⌝ }
         ensures { λ r. ⌜ r ≡ endDeviceChildCountCore self ⌝ }
@@ -509,6 +519,7 @@ impl Neighbors {
         }
     }
 
+    // `end_device_children` on a state that is well formed.
     pub fn end_device_children_core(self) -> Eui64sAnswer
         requires { ⌜ WellFormed self ⌝ }
         ensures { λ r. ⌜ r ≡ endDeviceChildrenCore self ⌝ }
@@ -532,6 +543,7 @@ impl Neighbors {
         }
     }
 
+    // `is_unconfirmed_end_device_child` on a state that is well formed.
     pub fn is_unconfirmed_end_device_child_core(self, eui64: Eui64) -> Truth
         requires { ⌜ WellFormed self ⌝ }
         ensures { λ r. ⌜ r ≡ isUnconfirmedEndDeviceChildCore self eui64 ⌝ }
@@ -551,6 +563,7 @@ impl Neighbors {
         }
     }
 
+    // `any_live_router_link` on a state that is well formed.
     pub fn any_live_router_link_core(self) -> Truth
         requires { ⌜ WellFormed self ⌝ }
         ensures { λ r. ⌜ r ≡ anyLiveRouterLinkCore self ⌝ }
@@ -571,6 +584,7 @@ impl Neighbors {
         }
     }
 
+    // `next_child_timeout` on a state that is well formed.
     pub fn next_child_timeout_core(self) -> MomentAnswer
         requires { ⌜ WellFormed self ⌝ }
         ensures { λ r. ⌜ r ≡ nextChildTimeoutCore self ⌝ }
@@ -590,6 +604,7 @@ impl Neighbors {
         }
     }
 
+    // `expected_broadcast_relayers` on a state that is well formed.
     pub fn expected_broadcast_relayers_core(self) -> NwksAnswer
         requires { ⌜ WellFormed self ⌝ }
         ensures { λ r. ⌜ r ≡ expectedBroadcastRelayersCore self ⌝ }
@@ -613,6 +628,7 @@ impl Neighbors {
         }
     }
 
+    // `link_status_entries` on a state that is well formed.
     pub fn link_status_entries_core(self) -> StatusesAnswer
         requires { ⌜ WellFormed self ⌝ }
         ensures { λ r. ⌜ r ≡ linkStatusEntriesCore self ⌝ }
@@ -636,6 +652,7 @@ impl Neighbors {
         }
     }
 
+    // `update_network_address` on a state that is well formed.
     pub fn update_network_address_core(self, eui64: Eui64, nwk: Nwk) -> Outcome
         requires { ⌜ WellFormed self ⌝ }
         ensures { λ r. ⌜ r ≡ updateNetworkAddressCore self eui64 nwk ⌝ }
@@ -655,6 +672,7 @@ impl Neighbors {
         }
     }
 
+    // `remove` on a state that is well formed.
     pub fn remove_core(self, eui64: Eui64) -> Outcome
         requires { ⌜ WellFormed self ⌝ }
         ensures { λ r. ⌜ r ≡ removeCore self eui64 ⌝ }
@@ -674,6 +692,7 @@ impl Neighbors {
         }
     }
 
+    // `record_outbound_activity` on a state that is well formed.
     pub fn record_outbound_activity_core(self, eui64: Eui64) -> Outcome
         requires { ⌜ WellFormed self ⌝ }
         ensures { λ r. ⌜ r ≡ recordOutboundActivityCore self eui64 ⌝ }
@@ -693,6 +712,7 @@ impl Neighbors {
         }
     }
 
+    // `record_inbound_activity` on a state that is well formed.
     pub fn record_inbound_activity_core(self, nwk: Nwk) -> Outcome
         requires { ⌜ WellFormed self ⌝ }
         ensures { λ r. ⌜ r ≡ recordInboundActivityCore self nwk ⌝ }
@@ -716,6 +736,7 @@ impl Neighbors {
         }
     }
 
+    // `record_transmit_failure` on a state that is well formed.
     pub fn record_transmit_failure_core(self, eui64: Eui64) -> Outcome
         requires { ⌜ WellFormed self ⌝ }
         ensures { λ r. ⌜ r ≡ recordTransmitFailureCore self eui64 ⌝ }
@@ -735,6 +756,7 @@ impl Neighbors {
         }
     }
 
+    // `reset_transmit_failures` on a state that is well formed.
     pub fn reset_transmit_failures_core(self) -> Outcome
         requires { ⌜ WellFormed self ⌝ }
         ensures { λ r. ⌜ r ≡ resetTransmitFailuresCore self ⌝ }

@@ -65,6 +65,7 @@ pub struct ResolveOutcome {
     pub header: NwkHeader,
 }
 
+// `resolve` on states that are well formed, a store that agrees and lists that have their places.
 pub fn resolve_core(
     routing: Routing,
     neighbors: Neighbors,

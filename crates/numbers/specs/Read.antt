@@ -1,8 +1,8 @@
 -- Arguments read from numbers. A place past the last number reads 0, and a number too large for its kind is cut to it: what is no call is kept out before.
 -- Assumes nothing.
-use Prim.Native.Nat.{ℕ, _%_}
+use Prim.Native.Nat.{ℕ, zero, suc, _+_, _%_}
 use mathlib.Core.Bool.{Bool, not}
-use mathlib.Core.List.{List}
+use mathlib.Core.List.{List, [], _∷_}
 use lib.Dec.{eqb}
 use lib.ListN.{getD}
 use Rattle.types.specs.declared.Nwk.{Nwk}
@@ -26,7 +26,12 @@ abbrev pub flagAt : List ℕ → ℕ → Bool
 flagAt args i = not (eqb (numberAt args i) 0)
 
 abbrev pub nwkAt : List ℕ → ℕ → Nwk
-nwkAt args i = record { 0 = numberAt args i % 65536 }
+nwkAt args i = record { 0 = shortAt args i }
 
 abbrev pub eui64At : List ℕ → ℕ → Eui64
 eui64At args i = record { 0 = numberAt args i }
+
+-- what f gives at n places, from place i on
+unfoldable pub listed : {A : Type 0} → (ℕ → A) → ℕ → ℕ → List A
+listed f i zero = []
+listed f i (suc n) = f i ∷ listed f (i + 1) n

@@ -152,7 +152,7 @@ pub fn flag(args: &[u64], i: usize) -> bool
 pub fn nwk(args: &[u64], i: usize) -> Nwk
     ensures { λ r. ⌜ r ≡ nwkAt (now (args .entry)) i ⌝ }
 {
-    Nwk((at(args, i) % 65536) as u16)
+    Nwk(short(args, i))
 }
 
 // The extended address at a place.

@@ -138,6 +138,7 @@ pub fn remove_claimed_children(state: Neighbors, claimed: Eui64List) -> Removal
     }
 }
 
+// `remove_claimed_children` on a state that is well formed.
 pub fn remove_claimed_children_core(state: Neighbors, claimed: Eui64List) -> Removal
     requires { ⌜ WellFormed state ⌝ }
     ensures { λ r. ⌜ r ≡ removeClaimedChildrenCore state claimed ⌝ }
@@ -169,6 +170,7 @@ pub fn process_parent_annce(state: Neighbors, announced: Eui64List) -> Announced
     }
 }
 
+// `process_parent_annce` on a state that is well formed.
 pub fn process_parent_annce_core(state: Neighbors, announced: Eui64List) -> Announced
     requires { ⌜ WellFormed state ⌝ }
     ensures { λ r. ⌜ r ≡ processParentAnnceCore state announced ⌝ }

@@ -45,6 +45,7 @@ fn refuse(refusal: Refusal, header: NwkHeader) -> ClearOutcome
     }
 }
 
+// `clear_end_device_initiator_for_relay` on a state that is well formed.
 pub fn clear_end_device_initiator_for_relay_core(
     neighbors: Neighbors,
     header: NwkHeader,

@@ -4,4 +4,4 @@ pub mod Shifts
 pub mod Agree
 pub mod Packing
 pub mod Steps
-pub mod Bench
+pub mod Worked

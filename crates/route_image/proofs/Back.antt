@@ -13,7 +13,8 @@ use Rattle.route_table.specs.declared.RouteTable.{RouteTable}
 use Rattle.discovery_table.specs.declared.DiscoveryTable.{DiscoveryTable}
 use Rattle.record_table.specs.declared.RecordTable.{RecordTable}
 use Rattle.cells.specs.Layout.{routesPlace, routeRowsPlace, discoveriesPlace, discoveryRowsPlace, recordsPlace, recordRowsPlace}
-use Rattle.cells.proofs.Back.{Each, there, first-there, cut-back, flag-back, keys-back, rows-back, keys-part, rows-part}
+use Rattle.flat_map.specs.Table.{Each}
+use Rattle.cells.proofs.Back.{there, first-there, cut-back, flag-back, keys-back, rows-back, keys-part, rows-part}
 use Rattle.route_args.specs.Read.{statusOf, routeAt, discoveryAt}
 use Rattle.route_args.proofs.Back.{status-back}
 use Rattle.route_image.specs.Routes.{recordAt, recordNumbers, routesAt, discoveriesAt, recordsAt, routesNumbers, discoveriesNumbers, recordsNumbers}

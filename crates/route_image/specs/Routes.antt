@@ -4,14 +4,14 @@
 use Prim.Native.Nat.{ℕ, _+_, _*_}
 use mathlib.Core.List.{List, [], _∷_, _++_, flatMap}
 use Rattle.standard.specs.declared.RecordEntry.{RecordEntry}
-use Rattle.numbers.specs.Read.{numberAt, byteAt, nwkAt}
+use Rattle.numbers.specs.Read.{numberAt, byteAt, nwkAt, listed}
 use Rattle.route_args.specs.Read.{routeAt, discoveryAt}
 use Rattle.route_answers.specs.Values.{routeNumbers, discoveryNumbers}
 use Rattle.route_table.specs.declared.RouteTable.{RouteTable}
 use Rattle.discovery_table.specs.declared.DiscoveryTable.{DiscoveryTable}
 use Rattle.record_table.specs.declared.RecordTable.{RecordTable}
 use Rattle.cells.specs.Layout.{routesPlace, routeRowsPlace, discoveriesPlace, discoveryRowsPlace, recordsPlace, recordRowsPlace}
-use Rattle.cells.specs.Listed.{listed, keysAt}
+use Rattle.cells.specs.Keys.{keysAt}
 
 -- a record, from place b on, and its numbers
 unfoldable pub recordAt : List ℕ → ℕ → RecordEntry

@@ -5,8 +5,8 @@ ghost use mathlib.Core.Path.{_≡_};
 ghost use mathlib.Core.List.{flatMap};
 ghost use Prim.Native.Nat.{_<_, _+_, _*_};
 ghost use lib.Seq.{sets};
+ghost use Rattle.numbers.specs.Read.{listed};
 ghost use Rattle.cells.specs.Layout.{recordsPlace, recordRowsPlace};
-ghost use Rattle.cells.specs.Listed.{listed};
 ghost use Rattle.route_image.specs.Routes.{recordAt, recordsAt, recordsNumbers, recordNumbers};
 
 // The row that begins at a place.

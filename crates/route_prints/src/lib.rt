@@ -18,7 +18,7 @@ fn row_relays(store: &[u16], i: usize, count: usize) -> RelayList
     requires { ⌜ i < 64 ⌝ }
     ensures { λ r. ⌜ r ≡ relaysHeld (now (store .entry)) i count ⌝ }
 {
-    let n = lines::held(count, 32);
+    let n = numbers::at_most(count, 32);
     let from = 32 * i;
     let mut l = relay_store::no_relays();
     l.count = n;
@@ -80,7 +80,7 @@ fn record_line(t: RecordTable, i: usize, store: &[u16]) -> Answer
 fn from_records(t: RecordTable, i: usize, store: &[u16]) -> Answer
     ensures { λ r. ⌜ r ≡ spoken (lineSaid (recordLines t (now (store .entry))) i) ⌝ }
 {
-    let n = lines::held(t.count, 64);
+    let n = numbers::at_most(t.count, 64);
     if n <= i {
         return numbers::no_call();
     }
@@ -92,7 +92,7 @@ fn from_discoveries(s: Routing, i: usize, store: &[u16]) -> Answer
     ensures { λ r. ⌜ r ≡ spoken (lineSaid (afterRoutes s (now (store .entry))) i) ⌝ }
 {
     let t = s.discovery_table;
-    let n = lines::held(t.count, 32);
+    let n = numbers::at_most(t.count, 32);
     if i < n {
         return discovery_line(t, i);
     }
@@ -105,7 +105,7 @@ fn from_routes(s: Routing, i: usize, store: &[u16]) -> Answer
     ensures { λ r. ⌜ r ≡ spoken (lineSaid (routeLines (s .«route_table») ++ afterRoutes s (now (store .entry))) i) ⌝ }
 {
     let t = s.route_table;
-    let n = lines::held(t.count, 64);
+    let n = numbers::at_most(t.count, 64);
     if i < n {
         return route_line(t, i);
     }
@@ -129,8 +129,8 @@ pub fn line_count(s: Routing) -> usize
     let routes = s.route_table;
     let discoveries = s.discovery_table;
     let records = s.route_record_table;
-    let a = lines::held(routes.count, 64);
-    let b = lines::held(discoveries.count, 32);
-    let c = lines::held(records.count, 64);
+    let a = numbers::at_most(routes.count, 64);
+    let b = numbers::at_most(discoveries.count, 32);
+    let c = numbers::at_most(records.count, 64);
     1 + (a + (b + c))
 }

@@ -42,7 +42,7 @@ use Rattle.routing.specs.declared.RouteRequestOutcome.{RouteRequestOutco
 use Rattle.routing.specs.declared.BeginOutcome.{BeginOutcome}
 use Rattle.routing.specs.Search.{acceptRouteReply, acceptRouteRequest, begunAs, beginDiscovery, beginManyToOneAdvertisement, nextId}
 use Rattle.routing.specs.State.{WellFormed, wellFormed, searchOf, withSearch}
-use Rattle.routing.proofs.Picked.{by-test}
+use Rattle.standard.proofs.Picked.{by-test}
 use Rattle.routing.proofs.State.{search-formed, put-back}
 
 -- rows in order that were tested for room fit

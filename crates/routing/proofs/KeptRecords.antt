@@ -26,7 +26,7 @@ use Rattle.routing.specs.declared.ToldAnswer.the-variants as told
 use Rattle.routing.specs.declared.ToldOutcome.{ToldOutcome}
 use Rattle.routing.specs.Records.{withRecords, storeRouteRecord, storeAfterRecord, removeRouteRecord, storeAfterRemoval}
 use Rattle.routing.specs.State.{WellFormed, wellFormed}
-use Rattle.routing.proofs.Picked.{both-by}
+use Rattle.standard.proofs.Picked.{both-by}
 
 -- a well-formed state and a store that agrees with it
 pub record Held (s : Routing) (store : List ℕ) : Type 0 where

@@ -15,7 +15,7 @@ use Rattle.routing.specs.declared.ToldOutcome.{ToldOutcome}
 use Rattle.routing.specs.Queries.{noteRouteError, noteDeliveryFailure, resetMtorrTriggers}
 use Rattle.routing.specs.Routes.{withRoutes, markDiscoveryFailed, recordUsage, noteSourceRoutedFrame, decayActivity, invalidateVia, restoreRoute, noteRelayedDiscovery, removeRoute}
 use Rattle.routing.specs.State.{WellFormed, wellFormed}
-use Rattle.routing.proofs.Picked.{by-test}
+use Rattle.standard.proofs.Picked.{by-test}
 
 module _ (s : Routing) (w : WellFormed s) where
   put-in : (t : RouteTable) → routes.WellFormed t → WellFormed (withRoutes s t)

@@ -21,7 +21,7 @@ use Rattle.routing.specs.declared.RecordAtOutcome.{RecordAtOutcome}
 use Rattle.routing.specs.Records.{wayIn, routeTo, rowIn}
 use Rattle.routing.specs.Records as exported
 use Rattle.routing.specs.State.{wellFormed}
-use Rattle.routing.proofs.Picked.{by-test}
+use Rattle.standard.proofs.Picked.{by-test}
 
 -- the answers that name relays
 abbrev pub NamesRelays : RouteToAnswer → Type 0

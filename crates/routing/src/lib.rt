@@ -201,6 +201,7 @@ impl Routing {
         s
     }
 
+    // `accept_route_reply` on a state that is well formed.
     pub fn accept_route_reply_core(
         self,
         own: Nwk,
@@ -257,6 +258,7 @@ impl Routing {
         )
     }
 
+    // `accept_route_request` on a state that is well formed.
     pub fn accept_route_request_core(
         self,
         originator: Nwk,
@@ -340,6 +342,7 @@ impl Routing {
         }
     }
 
+    // `begin_discovery` on a state that is well formed.
     pub fn begin_discovery_core(
         self,
         own: Nwk,
@@ -375,6 +378,7 @@ impl Routing {
         self.begin_discovery_core(own, destination, now, route_discovery_time)
     }
 
+    // `begin_many_to_one_advertisement` on a state that is well formed.
     pub fn begin_many_to_one_advertisement_core(
         self,
         own: Nwk,

@@ -19,6 +19,7 @@ ghost use Rattle.routing.specs.State.{WellFormed};
 ghost use Rattle.routing.specs.Queries.{routeStatusCore, routeStatus, discoveryDeadlineCore, discoveryDeadline, routeCountCore, routeCount, discoveryCountCore, discoveryCount, routeAtCore, routeAt, discoveryAtCore, discoveryAt, checkTablesCore, checkTables, nextHopCore, nextHop, noteRouteErrorCore, noteRouteError, noteDeliveryFailureCore, noteDeliveryFailure, resetMtorrTriggersCore, resetMtorrTriggers};
 
 impl Routing {
+    // `route_status` on a state that is well formed.
     pub fn route_status_core(self, destination: Nwk) -> StatusOutcome
         requires { ⌜ WellFormed self ⌝ }
         ensures { λ r. ⌜ r ≡ routeStatusCore self destination ⌝ }
@@ -37,6 +38,7 @@ impl Routing {
         self.route_status_core(destination)
     }
 
+    // `discovery_deadline` on a state that is well formed.
     pub fn discovery_deadline_core(self, destination: Nwk, now: u64) -> DeadlineOutcome
         requires { ⌜ WellFormed self ⌝ }
         ensures { λ r. ⌜ r ≡ discoveryDeadlineCore self destination now ⌝ }
@@ -59,6 +61,7 @@ impl Routing {
         self.discovery_deadline_core(destination, now)
     }
 
+    // `route_count` on a state that is well formed.
     pub fn route_count_core(self) -> CountOutcome
         requires { ⌜ WellFormed self ⌝ }
         ensures { λ r. ⌜ r ≡ routeCountCore self ⌝ }
@@ -77,6 +80,7 @@ impl Routing {
         self.route_count_core()
     }
 
+    // `discovery_count` on a state that is well formed.
     pub fn discovery_count_core(self) -> CountOutcome
         requires { ⌜ WellFormed self ⌝ }
         ensures { λ r. ⌜ r ≡ discoveryCountCore self ⌝ }
@@ -95,6 +99,7 @@ impl Routing {
         self.discovery_count_core()
     }
 
+    // `route_at` on a state that is well formed.
     pub fn route_at_core(self, place: usize) -> RouteAtOutcome
         requires { ⌜ WellFormed self ⌝ }
         ensures { λ r. ⌜ r ≡ routeAtCore self place ⌝ }
@@ -113,6 +118,7 @@ impl Routing {
         self.route_at_core(place)
     }
 
+    // `discovery_at` on a state that is well formed.
     pub fn discovery_at_core(self, place: usize) -> DiscoveryAtOutcome
         requires { ⌜ WellFormed self ⌝ }
         ensures { λ r. ⌜ r ≡ discoveryAtCore self place ⌝ }
@@ -131,6 +137,7 @@ impl Routing {
         self.discovery_at_core(place)
     }
 
+    // `check` on a state that is well formed.
     pub fn check_core(self) -> CheckOutcome
         requires { ⌜ WellFormed self ⌝ }
         ensures { λ r. ⌜ r ≡ checkTablesCore self ⌝ }
@@ -150,6 +157,7 @@ impl Routing {
         self.check_core()
     }
 
+    // `next_hop` on a state that is well formed.
     pub fn next_hop_core(self, destination: Nwk) -> HopOutcome
         requires { ⌜ WellFormed self ⌝ }
         ensures { λ r. ⌜ r ≡ nextHopCore self destination ⌝ }
@@ -173,6 +181,7 @@ impl Routing {
         self.next_hop_core(destination)
     }
 
+    // `note_route_error` without the test of the state.
     pub fn note_route_error_core(self, threshold: u8) -> ToldOutcome
         ensures { λ r. ⌜ r ≡ noteRouteErrorCore self threshold ⌝ }
     {
@@ -195,6 +204,7 @@ impl Routing {
         self.note_route_error_core(threshold)
     }
 
+    // `note_delivery_failure` without the test of the state.
     pub fn note_delivery_failure_core(self, threshold: u8) -> ToldOutcome
         ensures { λ r. ⌜ r ≡ noteDeliveryFailureCore self threshold ⌝ }
     {
@@ -217,6 +227,7 @@ impl Routing {
         self.note_delivery_failure_core(threshold)
     }
 
+    // `reset_mtorr_triggers` without the test of the state.
     pub fn reset_mtorr_triggers_core(self) -> DoneOutcome
         ensures { λ r. ⌜ r ≡ resetMtorrTriggersCore self ⌝ }
     {

@@ -85,6 +85,7 @@ impl Routing {
         }
     }
 
+    // `store_route_record` on a state that is well formed, a store that agrees with it and at most 32 relays.
     pub fn store_route_record_core(
         self,
         store: &mut [u16],
@@ -126,6 +127,7 @@ impl Routing {
         self.store_route_record_core(store, source, relays)
     }
 
+    // `remove_route_record` on a state that is well formed and a store that agrees with it.
     pub fn remove_route_record_core(self, store: &mut [u16], destination: Nwk) -> ToldOutcome
         requires { ⌜ WellFormed self × Agrees (self .«route_record_table») (now store) ⌝ }
         ensures { λ r. ⌜ r ≡ removeRouteRecordCore self destination (now (store .entry)) ⌝ }
@@ -171,6 +173,7 @@ impl Routing {
         }
     }
 
+    // `route_to` on a state that is well formed and a store that agrees with it.
     pub fn route_to_core(
         self,
         store: &[u16],
@@ -209,6 +212,7 @@ impl Routing {
         self.route_to(store, destination, 12)
     }
 
+    // `record_count` on a state that is well formed.
     pub fn record_count_core(self) -> CountOutcome
         requires { ⌜ WellFormed self ⌝ }
         ensures { λ r. ⌜ r ≡ recordCountCore self ⌝ }
@@ -227,6 +231,7 @@ impl Routing {
         self.record_count_core()
     }
 
+    // `record_at` on a state that is well formed and a store that agrees with it.
     pub fn record_at_core(self, store: &[u16], place: usize) -> RecordAtOutcome
         requires { ⌜ WellFormed self × Agrees (self .«route_record_table») (now store) ⌝ }
         ensures { λ r. ⌜ r ≡ recordAtCore self place (now (store .entry)) ⌝ }

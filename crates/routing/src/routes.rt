@@ -76,6 +76,7 @@ impl Routing {
         }
     }
 
+    // `mark_discovery_failed` on a state that is well formed.
     pub fn mark_discovery_failed_core(self, destination: Nwk) -> DoneOutcome
         requires { ⌜ WellFormed self ⌝ }
         ensures { λ r. ⌜ r ≡ markDiscoveryFailedCore self destination ⌝ }
@@ -95,6 +96,7 @@ impl Routing {
         self.mark_discovery_failed_core(destination)
     }
 
+    // `record_usage` on a state that is well formed.
     pub fn record_usage_core(self, destination: Nwk) -> DoneOutcome
         requires { ⌜ WellFormed self ⌝ }
         ensures { λ r. ⌜ r ≡ recordUsageCore self destination ⌝ }
@@ -114,6 +116,7 @@ impl Routing {
         self.record_usage_core(destination)
     }
 
+    // `note_source_routed_frame` on a state that is well formed.
     pub fn note_source_routed_frame_core(self, concentrator: Nwk) -> DoneOutcome
         requires { ⌜ WellFormed self ⌝ }
         ensures { λ r. ⌜ r ≡ noteSourceRoutedFrameCore self concentrator ⌝ }
@@ -133,6 +136,7 @@ impl Routing {
         self.note_source_routed_frame_core(concentrator)
     }
 
+    // `decay_activity` on a state that is well formed.
     pub fn decay_activity_core(self) -> DoneOutcome
         requires { ⌜ WellFormed self ⌝ }
         ensures { λ r. ⌜ r ≡ decayActivityCore self ⌝ }
@@ -152,6 +156,7 @@ impl Routing {
         self.decay_activity_core()
     }
 
+    // `invalidate_via` on a state that is well formed.
     pub fn invalidate_via_core(self, next_hop: Nwk) -> DoneOutcome
         requires { ⌜ WellFormed self ⌝ }
         ensures { λ r. ⌜ r ≡ invalidateViaCore self «next_hop» ⌝ }
@@ -171,6 +176,7 @@ impl Routing {
         self.invalidate_via_core(next_hop)
     }
 
+    // `restore_route` on a state that is well formed.
     pub fn restore_route_core(self, destination: Nwk, next_hop: Nwk, path_cost: u8) -> DoneOutcome
         requires { ⌜ WellFormed self ⌝ }
         ensures { λ r. ⌜ r ≡ restoreRouteCore self destination «next_hop» «path_cost» ⌝ }
@@ -190,6 +196,7 @@ impl Routing {
         self.restore_route_core(destination, next_hop, path_cost)
     }
 
+    // `note_relayed_discovery` on a state that is well formed.
     pub fn note_relayed_discovery_core(self, destination: Nwk) -> DoneOutcome
         requires { ⌜ WellFormed self ⌝ }
         ensures { λ r. ⌜ r ≡ noteRelayedDiscoveryCore self destination ⌝ }
@@ -209,6 +216,7 @@ impl Routing {
         self.note_relayed_discovery_core(destination)
     }
 
+    // `remove_route` on a state that is well formed.
     pub fn remove_route_core(self, destination: Nwk) -> ToldOutcome
         requires { ⌜ WellFormed self ⌝ }
         ensures { λ r. ⌜ r ≡ removeRouteCore self destination ⌝ }

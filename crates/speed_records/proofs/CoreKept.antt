@@ -13,7 +13,7 @@ use Rattle.routing.specs.declared.Routing.{Routing}
 use Rattle.routing.specs.declared.RecordOutcome.{RecordOutcome}
 use Rattle.routing.specs.Records.{storeRouteRecord, storeAfterRecord, storeRouteRecordCore, storeAfterRecordCore}
 use Rattle.routing.specs.State.{WellFormed, wellFormed}
-use Rattle.routing.proofs.Picked.{both-behind, both-behind-not}
+use Rattle.standard.proofs.Picked.{both-behind, both-behind-not}
 use Rattle.routing.proofs.State.{state-told}
 use Rattle.routing.proofs.KeptRecords.{Held, store-route-record-kept}
 

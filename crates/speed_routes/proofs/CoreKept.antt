@@ -15,7 +15,7 @@ use Rattle.routing.specs.declared.RouteRequestOutcome.{RouteRequestOutcome}
 use Rattle.routing.specs.declared.BeginOutcome.{BeginOutcome}
 use Rattle.routing.specs.Search.{replied, requestAnswered, begunAs, acceptRouteReply, acceptRouteRequest, beginDiscovery}
 use Rattle.routing.specs.State.{WellFormed, wellFormed, searchOf}
-use Rattle.routing.proofs.Picked.{behind}
+use Rattle.standard.proofs.Picked.{behind}
 use Rattle.routing.proofs.State.{state-told}
 use Rattle.routing.proofs.Kept.{reply-kept, request-kept, begin-kept}
 

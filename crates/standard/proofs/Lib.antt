@@ -3,3 +3,4 @@ pub mod Median
 pub mod Ring
 pub mod Unique
 pub mod Pairs
+pub mod Picked

@@ -1,6 +1,7 @@
 -- Each value is read at its place.
 use borrow.Author.Needs.{needs}
 use mathlib.Core.List.{[]}
+use Rattle.numbers.specs.Read.{listed}
 use Rattle.flat_map.specs.Rows.{pad}
 use Rattle.neighbor_queries.specs.Lists.{noStatus}
 use Rattle.child_arguments.proofs.bare_command.Statement.{statement}
@@ -16,6 +17,7 @@ at-requires : tie.Need-at-requires
 at-requires c κs = search needs
 
 returns : tie.Need-returns
+unfolding listed
 returns c = λ z. record { «is_first_frame» = c .before .before .flag .ensures z; «is_last_frame» = c .before .flag2 .ensures z; count = c .at .ensures z; statuses = pad 31 noStatus [] }
 
 pub bare-command-spec : {M : Type 1} → statement M

@@ -10,7 +10,7 @@ use Rattle.child_arguments.proofs.Reading.{name-stored}
 use Rattle.child_arguments.specs.Arguments.{namesTo, namesOf}
 use Rattle.flat_map.specs.Rows.{pad}
 use Rattle.neighbor_queries.specs.Lists.{noName}
-use Rattle.numbers.specs.Read.{numberAt}
+use Rattle.numbers.specs.Read.{numberAt, listed}
 use Rattle.child_arguments.proofs.names.Statement.{statement}
 use Rattle.child_arguments.proofs.names.Tie as tie
 
@@ -27,6 +27,7 @@ at-most-requires : tie.Need-at-most-requires Inv-loop μ-loop
 at-most-requires c κs = search needs
 
 loop-holds : tie.Need-loop-holds Inv-loop μ-loop
+unfolding listed
 loop-holds c = (search needs, λ z. record { count = c .before .at .ensures z; addresses = pad 64 noName [] })
 
 add-eui64 : tie.Need-add-eui64 Inv-loop μ-loop

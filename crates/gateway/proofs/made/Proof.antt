@@ -5,7 +5,8 @@ use mathlib.Core.Path.{ap, ap₂, _∙_}
 use denote.Ref.{now}
 use Rattle.world.specs.declared.Reply.{Reply}
 use Rattle.calls.specs.Groups.{callOf, storeOf}
-use Rattle.gateway.specs.Door.{storeLeft, keptBy, madeAnswer, madeImage}
+use Rattle.image.specs.Image.{keptBy}
+use Rattle.gateway.specs.Door.{storeLeft, madeAnswer, madeImage}
 use borrow.Author.Needs.{needs}
 use Rattle.gateway.proofs.made.Statement.{statement}
 use Rattle.gateway.proofs.made.Tie as tie

@@ -4,7 +4,8 @@ use denote.Ref.{now}
 use lib.ListN.{length}
 use borrow.Author.Tests.{lt-ltb, le-ltb}
 use Rattle.numbers.specs.declared.Answer.{Answer}
-use Rattle.gateway.specs.Door.{callStatus, callImage, callAnswer, answerWritten}
+use Rattle.image.specs.Image.{answerWritten}
+use Rattle.gateway.specs.Door.{callStatus, callImage, callAnswer}
 use borrow.Author.Needs.{needs}
 use Rattle.gateway.proofs.warpteasel_call.Statement.{statement}
 use Rattle.gateway.proofs.warpteasel_call.Tie as tie

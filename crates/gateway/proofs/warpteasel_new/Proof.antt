@@ -4,7 +4,8 @@ use denote.Ref.{now}
 use lib.ListN.{length, replicate}
 use borrow.Author.Tests.{eq-eqb, ne-eqb}
 use Rattle.world.specs.declared.World.{World}
-use Rattle.gateway.specs.Door.{newStatus, newImage, imageWith}
+use Rattle.image.specs.Image.{imageWith}
+use Rattle.gateway.specs.Door.{newStatus, newImage}
 use borrow.Author.Needs.{needs}
 use Rattle.gateway.proofs.warpteasel_new.Statement.{statement}
 use Rattle.gateway.proofs.warpteasel_new.Tie as tie

@@ -15,8 +15,8 @@ use Rattle.neighbor_prints.proofs.from_waiting.Tie as tie
 long : (c : tie.Start) → length (c .args .t .entries) ≡ 64
 long c = search (needs, unmapped)
 
-held-requires : tie.Need-held-requires
-held-requires c κs = search needs
+at-most-requires : tie.Need-at-most-requires
+at-most-requires c κs = search needs
 
 no-call-requires : tie.Need-no-call-requires
 no-call-requires c κs = search needs
@@ -25,13 +25,13 @@ returns : tie.Need-returns
 returns c =
     let s = c .before .before .before in
     let t = s .args .t in
-    c .no-call .ensures ∙ ap spoken (sym (line-none (waitingRows t) (s .args .i) (omega (arith, waiting-count t (long s), c .before .before .held .ensures, c .before .if1 .taken))))
+    c .no-call .ensures ∙ ap spoken (sym (line-none (waitingRows t) (s .args .i) (omega (arith, waiting-count t (long s), c .before .before .at-most .ensures, c .before .if1 .taken))))
 
 waiting-line-requires : tie.Need-waiting-line-requires
-waiting-line-requires c κs = omega (arith, c .before .held .ensures)
+waiting-line-requires c κs = omega (arith, c .before .at-most .ensures)
 
 returns-2 : tie.Need-returns-2
 returns-2 c = c .waiting-line .ensures
 
 pub from-waiting-spec : {M : Type 1} → statement M
-from-waiting-spec = tie.close (tie.spec held-requires no-call-requires returns waiting-line-requires returns-2)
+from-waiting-spec = tie.close (tie.spec at-most-requires no-call-requires returns waiting-line-requires returns-2)

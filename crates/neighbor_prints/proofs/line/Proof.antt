@@ -17,18 +17,18 @@ use Rattle.neighbor_prints.proofs.line.Tie as tie
 long : (c : tie.Start) → length (c .args .s .table .entries) ≡ 64
 long c = search (needs, unmapped)
 
-held-requires : tie.Need-held-requires
-held-requires c κs = search needs
+at-most-requires : tie.Need-at-most-requires
+at-most-requires c κs = search needs
 
 neighbor-line-requires : tie.Need-neighbor-line-requires
-neighbor-line-requires c κs = omega (arith, c .before .held .ensures)
+neighbor-line-requires c κs = omega (arith, c .before .at-most .ensures)
 
 returns : tie.Need-returns
 unfolding neighborLines
 returns c =
     let s = c .before .before .before .before in
     let t = s .args .s .table in
-    c .neighbor-line .ensures ∙ ap spoken (sym (line-first (neighborRows t) (waitingRows (s .args .s .«pending_lqas»)) (s .args .i) (omega (arith, neighbor-count t (long s), c .before .before .held .ensures, c .before .if1 .taken))))
+    c .neighbor-line .ensures ∙ ap spoken (sym (line-first (neighborRows t) (waitingRows (s .args .s .«pending_lqas»)) (s .args .i) (omega (arith, neighbor-count t (long s), c .before .before .at-most .ensures, c .before .if1 .taken))))
 
 from-waiting-requires : tie.Need-from-waiting-requires
 from-waiting-requires c κs = search needs
@@ -39,11 +39,11 @@ returns-2 c =
     let s = c .before .before .before .before .before in
     let t = s .args .s .table in
     let many = neighbor-count t (long s) in
-    let n = c .before .before .before .held .ensures in
+    let n = c .before .before .before .at-most .ensures in
     let ys = waitingRows (s .args .s .«pending_lqas») in
     c .from-waiting .ensures
     ∙ ap (λ k. spoken (lineSaid ys (s .args .i - k))) (n ∙ sym many)
     ∙ ap spoken (sym (line-rest (neighborRows t) ys (s .args .i) (omega (arith, many, n, c .before .before .if1 .left))))
 
 pub line-spec : {M : Type 1} → statement M
-line-spec = tie.close (tie.spec held-requires neighbor-line-requires returns from-waiting-requires returns-2)
+line-spec = tie.close (tie.spec at-most-requires neighbor-line-requires returns from-waiting-requires returns-2)

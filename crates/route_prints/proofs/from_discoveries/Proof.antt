@@ -18,11 +18,11 @@ use Rattle.route_prints.proofs.from_discoveries.Tie as tie
 long : (c : tie.Start) → length (c .args .s .«discovery_table» .entries) ≡ 32
 long c = search (needs, unmapped)
 
-held-requires : tie.Need-held-requires
-held-requires c κs = search needs
+at-most-requires : tie.Need-at-most-requires
+at-most-requires c κs = search needs
 
 discovery-line-requires : tie.Need-discovery-line-requires
-discovery-line-requires c κs = omega (arith, c .before .held .ensures)
+discovery-line-requires c κs = omega (arith, c .before .at-most .ensures)
 
 returns : tie.Need-returns
 unfolding afterRoutes
@@ -30,7 +30,7 @@ returns c =
     let s = c .before .before .before .before .before in
     let t = s .args .s .«discovery_table» in
     let many = discovery-count t (long s) in
-    c .discovery-line .ensures ∙ ap spoken (sym (line-first (discoveryLines t) (recordLines (s .args .s .«route_record_table») (now (s .args .store))) (s .args .i) (omega (arith, many, c .before .before .held .ensures, c .before .if1 .taken))))
+    c .discovery-line .ensures ∙ ap spoken (sym (line-first (discoveryLines t) (recordLines (s .args .s .«route_record_table») (now (s .args .store))) (s .args .i) (omega (arith, many, c .before .before .at-most .ensures, c .before .if1 .taken))))
 
 from-records-requires : tie.Need-from-records-requires
 from-records-requires c κs = search needs
@@ -41,11 +41,11 @@ returns-2 c =
     let s = c .before .before .before .before .before .before in
     let t = s .args .s .«discovery_table» in
     let many = discovery-count t (long s) in
-    let n = c .before .before .before .held .ensures in
+    let n = c .before .before .before .at-most .ensures in
     let ys = recordLines (s .args .s .«route_record_table») (now (s .args .store)) in
     c .from-records .ensures
     ∙ ap (λ k. spoken (lineSaid ys (s .args .i - k))) (n ∙ sym many)
     ∙ ap spoken (sym (line-rest (discoveryLines t) ys (s .args .i) (omega (arith, many, n, c .before .before .if1 .left))))
 
 pub from-discoveries-spec : {M : Type 1} → statement M
-from-discoveries-spec = tie.close (tie.spec held-requires discovery-line-requires returns from-records-requires returns-2)
+from-discoveries-spec = tie.close (tie.spec at-most-requires discovery-line-requires returns from-records-requires returns-2)

@@ -16,8 +16,8 @@ use Rattle.route_prints.proofs.from_records.Tie as tie
 long : (c : tie.Start) → length (c .args .t .entries) ≡ 64
 long c = search (needs, unmapped)
 
-held-requires : tie.Need-held-requires
-held-requires c κs = search needs
+at-most-requires : tie.Need-at-most-requires
+at-most-requires c κs = search needs
 
 no-call-requires : tie.Need-no-call-requires
 no-call-requires c κs = search needs
@@ -26,13 +26,13 @@ returns : tie.Need-returns
 returns c =
     let s = c .before .before .before .before in
     let t = s .args .t in
-    c .no-call .ensures ∙ ap spoken (sym (line-none (recordLines t (now (s .args .store))) (s .args .i) (omega (arith, record-count t (now (s .args .store)) (long s), c .before .before .held .ensures, c .before .if1 .taken))))
+    c .no-call .ensures ∙ ap spoken (sym (line-none (recordLines t (now (s .args .store))) (s .args .i) (omega (arith, record-count t (now (s .args .store)) (long s), c .before .before .at-most .ensures, c .before .if1 .taken))))
 
 record-line-requires : tie.Need-record-line-requires
-record-line-requires c κs = omega (arith, c .before .held .ensures)
+record-line-requires c κs = omega (arith, c .before .at-most .ensures)
 
 returns-2 : tie.Need-returns-2
 returns-2 c = c .record-line .ensures
 
 pub from-records-spec : {M : Type 1} → statement M
-from-records-spec = tie.close (tie.spec held-requires no-call-requires returns record-line-requires returns-2)
+from-records-spec = tie.close (tie.spec at-most-requires no-call-requires returns record-line-requires returns-2)

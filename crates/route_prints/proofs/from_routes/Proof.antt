@@ -18,18 +18,18 @@ use Rattle.route_prints.proofs.from_routes.Tie as tie
 long : (c : tie.Start) → length (c .args .s .«route_table» .entries) ≡ 64
 long c = search (needs, unmapped)
 
-held-requires : tie.Need-held-requires
-held-requires c κs = search needs
+at-most-requires : tie.Need-at-most-requires
+at-most-requires c κs = search needs
 
 route-line-requires : tie.Need-route-line-requires
-route-line-requires c κs = omega (arith, c .before .held .ensures)
+route-line-requires c κs = omega (arith, c .before .at-most .ensures)
 
 returns : tie.Need-returns
 returns c =
     let s = c .before .before .before .before .before in
     let t = s .args .s .«route_table» in
     let many = route-count t (long s) in
-    c .route-line .ensures ∙ ap spoken (sym (line-first (routeLines t) (afterRoutes (s .args .s) (now (s .args .store))) (s .args .i) (omega (arith, many, c .before .before .held .ensures, c .before .if1 .taken))))
+    c .route-line .ensures ∙ ap spoken (sym (line-first (routeLines t) (afterRoutes (s .args .s) (now (s .args .store))) (s .args .i) (omega (arith, many, c .before .before .at-most .ensures, c .before .if1 .taken))))
 
 from-discoveries-requires : tie.Need-from-discoveries-requires
 from-discoveries-requires c κs = search needs
@@ -39,11 +39,11 @@ returns-2 c =
     let s = c .before .before .before .before .before in
     let t = s .args .s .«route_table» in
     let many = route-count t (long s) in
-    let n = c .before .before .held .ensures in
+    let n = c .before .before .at-most .ensures in
     let ys = afterRoutes (s .args .s) (now (s .args .store)) in
     c .from-discoveries .ensures
     ∙ ap (λ k. spoken (lineSaid ys (s .args .i - k))) (n ∙ sym many)
     ∙ ap spoken (sym (line-rest (routeLines t) ys (s .args .i) (omega (arith, many, n, c .before .if1 .left))))
 
 pub from-routes-spec : {M : Type 1} → statement M
-from-routes-spec = tie.close (tie.spec held-requires route-line-requires returns from-discoveries-requires returns-2)
+from-routes-spec = tie.close (tie.spec at-most-requires route-line-requires returns from-discoveries-requires returns-2)

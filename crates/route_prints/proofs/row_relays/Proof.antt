@@ -22,8 +22,8 @@ Inv-loop store i count n from l₀ j₀ l j = (j ≤ n) × (l .count ≡ n) × (
 abbrev μ-loop : tie.MeasureT-loop
 μ-loop store i count n from l₀ j₀ l j = n - j
 
-held-requires : tie.Need-held-requires Inv-loop μ-loop
-held-requires c κs = search needs
+at-most-requires : tie.Need-at-most-requires Inv-loop μ-loop
+at-most-requires c κs = search needs
 
 mul-from : tie.Need-mul-from Inv-loop μ-loop
 mul-from c = search needs
@@ -36,14 +36,14 @@ unfolding relayList
 loop-holds c = (search needs, refl, ap (λ z. z .addresses) (c .no-relays .ensures))
 
 add-if1 : tie.Need-add-if1 Inv-loop μ-loop
-add-if1 c = omega (arith, c .before .before .before .held .ensures)
+add-if1 c = omega (arith, c .before .before .before .at-most .ensures)
 
 returns : tie.Need-returns Inv-loop μ-loop
 unfolding relaysHeld
 returns c =
     let s = c .before .before .before .before .before .before in
     let v = c .before .before .loop in
-    let n = c .before .before .before .before .held .ensures in
+    let n = c .before .before .before .before .at-most .ensures in
     let xs = drop (32 * s .args .i) (now (s .args .store)) in
     let short : length xs ≤ v .j = omega (arith, length-drop (32 * s .args .i) (now (s .args .store)), c .if1 .taken) in
     λ z. record {
@@ -52,7 +52,7 @@ returns c =
     }
 
 add-t11 : tie.Need-add-t11 Inv-loop μ-loop
-add-t11 c = omega (arith, c .before .before .before .before .held .ensures)
+add-t11 c = omega (arith, c .before .before .before .before .at-most .ensures)
 
 mul-t12 : tie.Need-mul-t12 Inv-loop μ-loop
 mul-t12 c = search needs
@@ -61,10 +61,10 @@ shared-slice-read-t14 : tie.Need-shared-slice-read-t14 Inv-loop μ-loop
 shared-slice-read-t14 c = search needs
 
 mul-a : tie.Need-mul-a Inv-loop μ-loop
-mul-a c = omega (arith, c .before .before .before .before .before .held .ensures)
+mul-a c = omega (arith, c .before .before .before .before .before .at-most .ensures)
 
 element-set-from-a : tie.Need-element-set-from-a Inv-loop μ-loop
-element-set-from-a c = omega (arith, c .before .before .before .before .before .held .ensures)
+element-set-from-a c = omega (arith, c .before .before .before .before .before .at-most .ensures)
 
 add-j : tie.Need-add-j Inv-loop μ-loop
 add-j c = search needs
@@ -76,7 +76,7 @@ loop-again : tie.Need-loop-again Inv-loop μ-loop
 loop-again c =
     let s = c .before .before .before .before .before .before .before in
     let v = c .before .before .before .loop in
-    let n = c .before .before .before .before .before .held .ensures in
+    let n = c .before .before .before .before .before .at-most .ensures in
     let store = now (s .args .store) in
     let here = ap nwk (sym (getD-drop (32 * s .args .i) store (v .j) 0)) in
     (search needs, v .inv .1, (λ z. set (v .inv .2 z) (v .j) (here z)) ∙ read-next nwk 0 32 (v .j) (drop (32 * s .args .i) store) (omega (arith, n)))
@@ -86,9 +86,9 @@ unfolding relaysHeld
 returns-2 c =
     let s = c .before .before .before .before .before in
     let v = c .before .loop in
-    let n = c .before .before .before .held .ensures in
+    let n = c .before .before .before .at-most .ensures in
     let xs = drop (32 * s .args .i) (now (s .args .store)) in
-    let all : v .j ≡ c .before .before .before .held .result = omega arith in
+    let all : v .j ≡ c .before .before .before .at-most .result = omega arith in
     λ z. record { count = (v .inv .1 ∙ n) z; addresses = (v .inv .2 ∙ ap (λ k. pad 32 (nwk 0) (map nwk (take k xs))) (all ∙ n)) z }
 
 pub row-relays-spec : {M : Type 1} → statement M
@@ -97,7 +97,7 @@ row-relays-spec =
     (tie.spec
     Inv-loop
     μ-loop
-    held-requires
+    at-most-requires
     mul-from
     no-relays-requires
     loop-holds

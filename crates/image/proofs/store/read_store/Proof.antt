@@ -5,9 +5,8 @@ use mathlib.Core.Path.{_≡_, sym, ap, _∙_}
 use native.Mathlib.Omega.{arith}
 use denote.Ref.{now}
 use lib.ListN.{take, length, set, length-set, replicate, length-replicate}
-use Rattle.numbers.specs.Read.{numberAt}
-use Rattle.cells.specs.Listed.{listed}
-use Rattle.cells.proofs.Reading.{read-all, read-next, read-done}
+use Rattle.numbers.specs.Read.{numberAt, listed}
+use Rattle.numbers.proofs.Listed.{read-all, read-next, read-done}
 use Rattle.image.specs.Image.{storeIn}
 use borrow.Author.Needs.{needs}
 use Rattle.image.proofs.store.read_store.Statement.{statement}

@@ -7,7 +7,7 @@ use denote.Ref.{now}
 use lib.ListN.{length}
 use lib.Seq.{sets}
 use Rattle.cells.proofs.Writing.{put-table}
-use Rattle.neighbor_image.specs.Neighbors.{waitingNumbers}
+use Rattle.neighbor_values.specs.Values.{waitingNumbers}
 use Rattle.neighbor_image.specs.Neighbors.{waitingTableNumbers}
 use borrow.Author.Needs.{needs}
 use Rattle.neighbor_image.proofs.waiting.write_waiting.Statement.{statement}

@@ -7,7 +7,7 @@ use lib.ListN.{length, drop, getD}
 use lib.Seq.{sets, length-sets}
 use Rattle.flat_map.proofs.Shift.{unmapped}
 use Rattle.cells.proofs.Writing.{put-row, rows-done}
-use Rattle.neighbor_image.specs.Neighbors.{waitingNumbers}
+use Rattle.neighbor_values.specs.Values.{waitingNumbers}
 use borrow.Author.Needs.{needs}
 use Rattle.neighbor_image.proofs.waiting.write_waiting_entry_rows.Statement.{statement}
 use Rattle.neighbor_image.proofs.waiting.write_waiting_entry_rows.Tie as tie

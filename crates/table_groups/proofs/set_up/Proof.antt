@@ -2,9 +2,9 @@
 use mathlib.Core.Path.{_∙_}
 use borrow.Author.Needs.{needs}
 use borrow.Author.Tests.{eq-eqb, ne-eqb}
-use Rattle.calls.specs.Groups.{setUp}
-use Rattle.calls.proofs.set_up.Statement.{statement}
-use Rattle.calls.proofs.set_up.Tie as tie
+use Rattle.table_groups.specs.Groups.{setUp}
+use Rattle.table_groups.proofs.set_up.Statement.{statement}
+use Rattle.table_groups.proofs.set_up.Tie as tie
 
 reset-requires : tie.Need-reset-requires
 reset-requires c κs = search needs

@@ -3,10 +3,10 @@ use Prim.Native.Nat.{ℕ}
 use mathlib.Core.List.{List}
 use mathlib.Core.Path.{ap, _∙_}
 use lib.Seq.{sets}
-use Rattle.gateway.specs.Door.{answerWritten}
+use Rattle.image.specs.Image.{answerWritten}
 use borrow.Author.Needs.{needs}
-use Rattle.gateway.proofs.write_answer.Statement.{statement}
-use Rattle.gateway.proofs.write_answer.Tie as tie
+use Rattle.image.proofs.write_answer.Statement.{statement}
+use Rattle.image.proofs.write_answer.Tie as tie
 
 cast-t5 : tie.Need-cast-t5
 cast-t5 c = search needs

@@ -1,10 +1,10 @@
 -- The number is compared with each of the group's in turn.
 use mathlib.Core.Path.{_∙_}
 use borrow.Author.Tests.{eq-eqb, ne-eqb}
-use Rattle.calls.specs.Groups.{decideBy}
+use Rattle.decision_lines.specs.Lines.{decideBy}
 use borrow.Author.Needs.{needs}
-use Rattle.calls.proofs.decide.Statement.{statement}
-use Rattle.calls.proofs.decide.Tie as tie
+use Rattle.decision_lines.proofs.decide.Statement.{statement}
+use Rattle.decision_lines.proofs.decide.Tie as tie
 
 clear-end-device-initiator-for-relay-requires : tie.Need-clear-end-device-initiator-for-relay-requires
 clear-end-device-initiator-for-relay-requires c κs = search needs

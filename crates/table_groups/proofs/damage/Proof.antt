@@ -2,9 +2,9 @@
 use mathlib.Core.Path.{_∙_}
 use borrow.Author.Needs.{needs}
 use borrow.Author.Tests.{eq-eqb, ne-eqb}
-use Rattle.calls.specs.Groups.{damageBy}
-use Rattle.calls.proofs.damage.Statement.{statement}
-use Rattle.calls.proofs.damage.Tie as tie
+use Rattle.table_groups.specs.Groups.{damageBy}
+use Rattle.table_groups.proofs.damage.Statement.{statement}
+use Rattle.table_groups.proofs.damage.Tie as tie
 
 set-route-count-requires : tie.Need-set-route-count-requires
 set-route-count-requires c κs = search needs

@@ -1,9 +1,9 @@
 -- The one test is the definition's.
 use borrow.Author.Needs.{needs}
 use borrow.Author.Tests.{eq-eqb, ne-eqb}
-use Rattle.gateway.specs.Door.{keptBy}
-use Rattle.gateway.proofs.keep_answered.Statement.{statement}
-use Rattle.gateway.proofs.keep_answered.Tie as tie
+use Rattle.image.specs.Image.{keptBy}
+use Rattle.image.proofs.keep_answered.Statement.{statement}
+use Rattle.image.proofs.keep_answered.Tie as tie
 
 returns : tie.Need-returns
 unfolding keptBy

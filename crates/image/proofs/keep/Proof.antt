@@ -4,10 +4,10 @@ use mathlib.Core.List.{List}
 use mathlib.Core.Path.{ap, _∙_}
 use denote.Ref.{now}
 use lib.Seq.{sets}
-use Rattle.gateway.specs.Door.{imageWith}
+use Rattle.image.specs.Image.{imageWith}
 use borrow.Author.Needs.{needs}
-use Rattle.gateway.proofs.keep.Statement.{statement}
-use Rattle.gateway.proofs.keep.Tie as tie
+use Rattle.image.proofs.keep.Statement.{statement}
+use Rattle.image.proofs.keep.Tie as tie
 
 write-world-requires : tie.Need-write-world-requires
 write-world-requires c κs = search needs
