@@ -14,7 +14,7 @@ use Rattle.calls.specs.Groups.{groupOf, callOf, storeOf}
 use Rattle.words.specs.Words.{shaped}
 use Rattle.cells.specs.Layout.{imageLength}
 use Rattle.image.specs.Good.{goodImage}
-use Rattle.image.specs.Image.{worldIn, storeIn, imageWith, keptBy, answerWritten}
+use Rattle.image.specs.Image.{worldIn, storeIn, imageWith, keptIf, answerWritten}
 
 -- a new image: 0 and the fresh world, or 8 and nothing where the length is wrong
 unfoldable pub newStatus : List ℕ → ℕ
@@ -32,7 +32,7 @@ unfoldable pub madeAnswer : World → ℕ → List ℕ → List ℕ → Answer
 madeAnswer w n args xs = callOf w n args (storeIn xs) .answer
 
 unfoldable pub madeImage : World → ℕ → List ℕ → List ℕ → List ℕ
-madeImage w n args xs = keptBy (callOf w n args (storeIn xs) .answer .kind) (callOf w n args (storeIn xs) .world) (storeLeft n (storeOf w n args (storeIn xs))) xs
+madeImage w n args xs = keptIf (callOf w n args (storeIn xs) .answer .kind) (callOf w n args (storeIn xs) .world) (storeLeft n (storeOf w n args (storeIn xs))) xs
 
 -- numbers that are a call here: of the shape of their call's, which is none that the program of scripts answers itself
 unfoldable pub isCall : ℕ → List ℕ → Bool

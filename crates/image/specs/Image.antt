@@ -55,8 +55,8 @@ unfoldable pub imageWith : World → List ℕ → List ℕ → List ℕ
 imageWith w store xs = sets (sets xs 0 (worldNumbers w)) storePlace store
 
 -- demand 1, "a refused call hands back the old state and an unchanged store": only a call that is answered, kind 0, writes the image
-unfoldable pub keptBy : ℕ → World → List ℕ → List ℕ → List ℕ
-keptBy kind w store xs = cond (eqb kind 0) (imageWith w store xs) xs
+unfoldable pub keptIf : ℕ → World → List ℕ → List ℕ → List ℕ
+keptIf kind w store xs = cond (eqb kind 0) (imageWith w store xs) xs
 
 -- an answer as C reads it: its kind, its count, and 256 values, of which those after the count mean nothing
 unfoldable pub answerWritten : Answer → List ℕ → List ℕ

@@ -10,7 +10,7 @@ ghost use mathlib.Core.Path.{_≡_};
 ghost use lib.Seq.{sets};
 ghost use Rattle.cells.specs.Layout.{neighborsPlace};
 ghost use Rattle.image.specs.Good.{goodImage};
-ghost use Rattle.image.specs.Image.{routingIn, neighborsIn, worldIn, routingNumbers, neighborsNumbers, worldNumbers, imageWith, keptBy, answerWritten};
+ghost use Rattle.image.specs.Image.{routingIn, neighborsIn, worldIn, routingNumbers, neighborsNumbers, worldNumbers, imageWith, keptIf, answerWritten};
 
 // What is read from an image: whether it is good, and the world, which means something only where it is.
 pub struct Read {
@@ -111,7 +111,7 @@ pub fn keep(world: World, store: &[u16], image: &mut [u64])
 
 // What a call leaves, put into the image if the call was answered; one that is refused or bad leaves the image alone.
 pub fn keep_answered(kind: u8, world: World, store: &[u16], image: &mut [u64])
-    ensures { λ _. ⌜ now (image .exit) ≡ keptBy kind world (now (store .entry)) (now (image .entry)) ⌝ }
+    ensures { λ _. ⌜ now (image .exit) ≡ keptIf kind world (now (store .entry)) (now (image .entry)) ⌝ }
 {
     if kind != 0 {
         return;

@@ -1,5 +1,5 @@
 -- The values of a neighbour, a child, a link status and of lists of them, in the order in which a script takes and prints them.
--- Document 01, "How flatMap place should look": "a definition gives this paper's number and values for flatMap of its cases".
+-- Document 01, "How each place should look": "a definition gives this paper's number and values for each of its cases".
 -- Assumes nothing.
 use Prim.Native.Nat.{ℕ}
 use mathlib.Core.List.{List, [], _∷_, _++_, flatMap}

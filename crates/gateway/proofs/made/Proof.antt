@@ -5,7 +5,7 @@ use mathlib.Core.Path.{ap, ap₂, _∙_}
 use denote.Ref.{now}
 use Rattle.world.specs.declared.Reply.{Reply}
 use Rattle.calls.specs.Groups.{callOf, storeOf}
-use Rattle.image.specs.Image.{keptBy}
+use Rattle.image.specs.Image.{keptIf}
 use Rattle.gateway.specs.Door.{storeLeft, madeAnswer, madeImage}
 use borrow.Author.Needs.{needs}
 use Rattle.gateway.proofs.made.Statement.{statement}
@@ -42,7 +42,7 @@ returns c =
     let e = c .before .before .before .before .before .before .before .before .before .call .ensures .0 ∙ ap (λ (m : List ℕ). callOf (a .world) n g m) s in
     let f = c .before .before .before .before .before .before .before .before .before .call .ensures .1 ∙ ap (λ (m : List ℕ). storeOf (a .world) n g m) s in
     let l = c .before .before .before .before .before .left .ensures ∙ ap (storeLeft n) f in
-    (ap (λ (r : Reply). r .answer) e, c .before .before .keep-answered .ensures ∙ ap₂ (λ (r : Reply) (m : List ℕ). keptBy (r .answer .kind) (r .world) m (now (a .image))) e l)
+    (ap (λ (r : Reply). r .answer) e, c .before .before .keep-answered .ensures ∙ ap₂ (λ (r : Reply) (m : List ℕ). keptIf (r .answer .kind) (r .world) m (now (a .image))) e l)
 
 pub made-spec : {M : Type 1} → statement M
 made-spec =

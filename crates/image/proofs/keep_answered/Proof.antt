@@ -1,12 +1,12 @@
 -- The one test is the definition's.
 use borrow.Author.Needs.{needs}
 use borrow.Author.Tests.{eq-eqb, ne-eqb}
-use Rattle.image.specs.Image.{keptBy}
+use Rattle.image.specs.Image.{keptIf}
 use Rattle.image.proofs.keep_answered.Statement.{statement}
 use Rattle.image.proofs.keep_answered.Tie as tie
 
 returns : tie.Need-returns
-unfolding keptBy
+unfolding keptIf
 returns c = rw (ne-eqb _ _ (c .if1 .taken))
 
 keep-requires : tie.Need-keep-requires
@@ -16,7 +16,7 @@ same-length : tie.Need-same-length
 same-length c = search needs
 
 returns-2 : tie.Need-returns-2
-unfolding keptBy
+unfolding keptIf
 returns-2 c = rw (eq-eqb _ _ (c .before .before .before .before .if1 .left)) (c .before .before .keep .ensures)
 
 pub keep-answered-spec : {M : Type 1} → statement M
