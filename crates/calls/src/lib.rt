@@ -5,7 +5,7 @@ use world::World;
 ghost use mathlib.Core.Path.{_≡_};
 ghost use Rattle.numbers.specs.Said.{spoken};
 ghost use Rattle.lines.specs.Lines.{lineSaid};
-ghost use Rattle.table_lines.specs.Loaded.{worldLines};
+ghost use Rattle.table_groups.specs.Loaded.{worldLines};
 ghost use Rattle.calls.specs.Groups.{groupOf, callPlain, callOf, storeOf};
 
 // The group of each number, 0 for what is no call here.
@@ -167,5 +167,5 @@ pub fn call(world: World, number: u64, args: &[u64], store: &mut [u16]) -> Reply
 pub fn table_line(world: World, index: u64, store: &[u16]) -> Answer
     ensures { λ r. ⌜ r ≡ spoken (lineSaid (worldLines world (now (store .entry))) index) ⌝ }
 {
-    table_lines::table_line(world, index, store)
+    table_groups::tables::table_line(world, index, store)
 }

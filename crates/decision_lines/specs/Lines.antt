@@ -5,11 +5,11 @@ use mathlib.Core.Bool.{cond}
 use mathlib.Core.List.{List}
 use lib.Dec.{eqb}
 use Rattle.numbers.specs.Said.{bad}
-use Rattle.header_numbers.specs.Reading.{headerAt}
+use Rattle.decision_lines.specs.Header.{headerAt}
 use Rattle.relay_header.specs.Relayed.{cleared}
 use Rattle.next_hop.specs.Decision as decision
 use Rattle.next_hop.specs.Numbers.{resolveSaid, clearSaid}
-use Rattle.decision_numbers.specs.Arguments.{modeAt, pastMode, policyOf}
+use Rattle.decision_lines.specs.Arguments.{modeAt, pastMode, policyOf}
 use Rattle.world.specs.declared.World.{World}
 use Rattle.world.specs.declared.Reply.{Reply}
 use Rattle.world.specs.Worlds.{asked}

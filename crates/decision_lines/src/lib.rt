@@ -1,4 +1,7 @@
 // The decision on the next hop, and the bit cleared for a relay, one function for each word of a script. The relay store is lent to be read.
+pub mod arguments;
+pub mod header;
+
 use world::Reply;
 use world::World;
 ghost use mathlib.Core.Path.{_≡_};
@@ -9,9 +12,9 @@ pub fn clear_end_device_initiator_for_relay(world: World, args: &[u64]) -> Reply
     ensures { λ r. ⌜ r ≡ clearCall world (now (args .entry)) ⌝ }
 {
     let state = world.neighbors;
-    let header = header_numbers::header(args, 0);
+    let header = header::header(args, 0);
     let said = relay_header::clear_end_device_initiator_for_relay(state, header);
-    world::asked(world, decision_numbers::clear_answer(said))
+    world::asked(world, arguments::clear_answer(said))
 }
 
 // The next hop by a policy.
@@ -20,11 +23,11 @@ pub fn resolve(world: World, args: &[u64], store: &[u16]) -> Reply
 {
     let routing = world.routing;
     let neighbors = world.neighbors;
-    let policy = decision_numbers::policy(args);
-    let mode = decision_numbers::mode(args, 3);
-    let header = header_numbers::header(args, decision_numbers::after_mode(args, 3));
+    let policy = arguments::policy(args);
+    let mode = arguments::mode(args, 3);
+    let header = header::header(args, arguments::after_mode(args, 3));
     let said = next_hop::resolve(routing, neighbors, store, header, mode, policy);
-    world::asked(world, decision_numbers::resolve_answer(said))
+    world::asked(world, arguments::resolve_answer(said))
 }
 
 // The next hop by the default policy.
@@ -33,10 +36,10 @@ pub fn resolve_default(world: World, args: &[u64], store: &[u16]) -> Reply
 {
     let routing = world.routing;
     let neighbors = world.neighbors;
-    let mode = decision_numbers::mode(args, 0);
-    let header = header_numbers::header(args, decision_numbers::after_mode(args, 0));
+    let mode = arguments::mode(args, 0);
+    let header = header::header(args, arguments::after_mode(args, 0));
     let said = next_hop::resolve_default(routing, neighbors, store, header, mode);
-    world::asked(world, decision_numbers::resolve_answer(said))
+    world::asked(world, arguments::resolve_answer(said))
 }
 
 // The decisions by their numbers.

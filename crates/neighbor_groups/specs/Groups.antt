@@ -8,10 +8,10 @@ use Rattle.numbers.specs.Said.{bad}
 use Rattle.world.specs.declared.World.{World}
 use Rattle.world.specs.declared.Reply.{Reply}
 use Rattle.world.specs.Worlds.{asked}
-use Rattle.neighbor_lines.specs.Lines.{lqiToLinkCostCall, linkCall, neighbourCountCall, neighbourAtCall, hasNetworkAddressCall, endDeviceChildEui64Call, sleepyChildEui64Call, containsCall, deviceCapabilityCall, endDeviceChildCountCall, isUnconfirmedEndDeviceChildCall, nextChildTimeoutCall, anyLiveRouterLinkCall}
-use Rattle.neighbor_list_lines.specs.Lines.{lqaCall, incomingLinkCostCall, isChildCall, sleepyChildrenCall, endDeviceChildrenCall, expectedBroadcastRelayersCall, linkStatusEntriesCall}
-use Rattle.neighbor_event_lines.specs.Lines.{recordLqaCall, updateNetworkAddressCall, removeCall, recordOutboundActivityCall, recordInboundActivityCall, recordTransmitFailureCall, resetTransmitFailuresCall}
-use Rattle.child_lines.specs.Lines.{refreshChildTimeoutCall, setChildTimeoutCall, takeChildCall, removeClaimedChildrenCall, processParentAnnceCall, evictTimedOutChildrenCall, upsertChildCall, onLinkStatusCall}
+use Rattle.neighbor_groups.specs.Queries.{lqiToLinkCostCall, linkCall, neighbourCountCall, neighbourAtCall, hasNetworkAddressCall, endDeviceChildEui64Call, sleepyChildEui64Call, containsCall, deviceCapabilityCall, endDeviceChildCountCall, isUnconfirmedEndDeviceChildCall, nextChildTimeoutCall, anyLiveRouterLinkCall}
+use Rattle.neighbor_groups.specs.Lists.{lqaCall, incomingLinkCostCall, isChildCall, sleepyChildrenCall, endDeviceChildrenCall, expectedBroadcastRelayersCall, linkStatusEntriesCall}
+use Rattle.neighbor_groups.specs.Events.{recordLqaCall, updateNetworkAddressCall, removeCall, recordOutboundActivityCall, recordInboundActivityCall, recordTransmitFailureCall, resetTransmitFailuresCall}
+use Rattle.neighbor_groups.specs.Child.{refreshChildTimeoutCall, setChildTimeoutCall, takeChildCall, removeClaimedChildrenCall, processParentAnnceCall, evictTimedOutChildrenCall, upsertChildCall, onLinkStatusCall}
 
 -- The calls that ask the neighbours of links and addresses.
 unfoldable pub askNeighbors : World → ℕ → List ℕ → Reply

@@ -1,1 +1,5 @@
 pub mod Groups
+pub mod Queries
+pub mod Lists
+pub mod Events
+pub mod Child

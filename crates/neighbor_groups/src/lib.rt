@@ -1,4 +1,9 @@
 // The neighbour calls by their numbers, a group to a function.
+pub mod child;
+pub mod events;
+pub mod lists;
+pub mod queries;
+
 use world::Reply;
 use world::World;
 ghost use mathlib.Core.Path.{_≡_};
@@ -9,25 +14,25 @@ pub fn ask_neighbors(world: World, number: u64, args: &[u64]) -> Reply
     ensures { λ r. ⌜ r ≡ askNeighbors world number (now (args .entry)) ⌝ }
 {
     if number == 33 {
-        return neighbor_lines::lqi_to_link_cost(world, args);
+        return queries::lqi_to_link_cost(world, args);
     }
     if number == 35 {
-        return neighbor_lines::link(world, args);
+        return queries::link(world, args);
     }
     if number == 36 {
-        return neighbor_lines::neighbour_count(world, args);
+        return queries::neighbour_count(world, args);
     }
     if number == 37 {
-        return neighbor_lines::neighbour_at(world, args);
+        return queries::neighbour_at(world, args);
     }
     if number == 41 {
-        return neighbor_lines::has_network_address(world, args);
+        return queries::has_network_address(world, args);
     }
     if number == 42 {
-        return neighbor_lines::end_device_child_eui64(world, args);
+        return queries::end_device_child_eui64(world, args);
     }
     if number == 43 {
-        return neighbor_lines::sleepy_child_eui64(world, args);
+        return queries::sleepy_child_eui64(world, args);
     }
     let answer = numbers::no_call();
     world::asked(world, answer)
@@ -38,22 +43,22 @@ pub fn ask_children(world: World, number: u64, args: &[u64]) -> Reply
     ensures { λ r. ⌜ r ≡ askChildren world number (now (args .entry)) ⌝ }
 {
     if number == 45 {
-        return neighbor_lines::contains(world, args);
+        return queries::contains(world, args);
     }
     if number == 46 {
-        return neighbor_lines::device_capability(world, args);
+        return queries::device_capability(world, args);
     }
     if number == 47 {
-        return neighbor_lines::end_device_child_count(world, args);
+        return queries::end_device_child_count(world, args);
     }
     if number == 53 {
-        return neighbor_lines::is_unconfirmed_end_device_child(world, args);
+        return queries::is_unconfirmed_end_device_child(world, args);
     }
     if number == 57 {
-        return neighbor_lines::next_child_timeout(world, args);
+        return queries::next_child_timeout(world, args);
     }
     if number == 60 {
-        return neighbor_lines::any_live_router_link(world, args);
+        return queries::any_live_router_link(world, args);
     }
     let answer = numbers::no_call();
     world::asked(world, answer)
@@ -64,25 +69,25 @@ pub fn list_neighbors(world: World, number: u64, args: &[u64]) -> Reply
     ensures { λ r. ⌜ r ≡ listNeighbors world number (now (args .entry)) ⌝ }
 {
     if number == 38 {
-        return neighbor_list_lines::lqa(world, args);
+        return lists::lqa(world, args);
     }
     if number == 39 {
-        return neighbor_list_lines::incoming_link_cost(world, args);
+        return lists::incoming_link_cost(world, args);
     }
     if number == 40 {
-        return neighbor_list_lines::is_child(world, args);
+        return lists::is_child(world, args);
     }
     if number == 44 {
-        return neighbor_list_lines::sleepy_children(world, args);
+        return lists::sleepy_children(world, args);
     }
     if number == 52 {
-        return neighbor_list_lines::end_device_children(world, args);
+        return lists::end_device_children(world, args);
     }
     if number == 61 {
-        return neighbor_list_lines::expected_broadcast_relayers(world, args);
+        return lists::expected_broadcast_relayers(world, args);
     }
     if number == 62 {
-        return neighbor_list_lines::link_status_entries(world, args);
+        return lists::link_status_entries(world, args);
     }
     let answer = numbers::no_call();
     world::asked(world, answer)
@@ -93,25 +98,25 @@ pub fn note_neighbors(world: World, number: u64, args: &[u64]) -> Reply
     ensures { λ r. ⌜ r ≡ noteNeighbors world number (now (args .entry)) ⌝ }
 {
     if number == 34 {
-        return neighbor_event_lines::record_lqa(world, args);
+        return events::record_lqa(world, args);
     }
     if number == 50 {
-        return neighbor_event_lines::update_network_address(world, args);
+        return events::update_network_address(world, args);
     }
     if number == 59 {
-        return neighbor_event_lines::remove(world, args);
+        return events::remove(world, args);
     }
     if number == 63 {
-        return neighbor_event_lines::record_outbound_activity(world, args);
+        return events::record_outbound_activity(world, args);
     }
     if number == 64 {
-        return neighbor_event_lines::record_inbound_activity(world, args);
+        return events::record_inbound_activity(world, args);
     }
     if number == 65 {
-        return neighbor_event_lines::record_transmit_failure(world, args);
+        return events::record_transmit_failure(world, args);
     }
     if number == 66 {
-        return neighbor_event_lines::reset_transmit_failures(world, args);
+        return events::reset_transmit_failures(world, args);
     }
     let answer = numbers::no_call();
     world::asked(world, answer)
@@ -122,28 +127,28 @@ pub fn change_children(world: World, number: u64, args: &[u64]) -> Reply
     ensures { λ r. ⌜ r ≡ changeChildren world number (now (args .entry)) ⌝ }
 {
     if number == 48 {
-        return child_lines::refresh_child_timeout(world, args);
+        return child::refresh_child_timeout(world, args);
     }
     if number == 49 {
-        return child_lines::set_child_timeout(world, args);
+        return child::set_child_timeout(world, args);
     }
     if number == 51 {
-        return child_lines::take_child(world, args);
+        return child::take_child(world, args);
     }
     if number == 54 {
-        return child_lines::remove_claimed_children(world, args);
+        return child::remove_claimed_children(world, args);
     }
     if number == 55 {
-        return child_lines::process_parent_annce(world, args);
+        return child::process_parent_annce(world, args);
     }
     if number == 56 {
-        return child_lines::evict_timed_out_children(world, args);
+        return child::evict_timed_out_children(world, args);
     }
     if number == 58 {
-        return child_lines::upsert_child(world, args);
+        return child::upsert_child(world, args);
     }
     if number == 67 {
-        return child_lines::on_link_status(world, args);
+        return child::on_link_status(world, args);
     }
     let answer = numbers::no_call();
     world::asked(world, answer)

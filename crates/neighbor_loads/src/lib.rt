@@ -1,5 +1,7 @@
 // The lines that set the neighbours up, and those that damage them: each puts one entry or one number, and nothing else.
 // Samples and costs may be ill formed; the calls on the neighbours then refuse the state.
+pub mod prints;
+
 use neighbor_table::NeighborEntry;
 use neighbor_table::NeighborTable;
 use neighbors::Neighbors;

@@ -1,4 +1,6 @@
 // The lines that set the routing state up, and those that damage it: each puts one entry or one number, and nothing else.
+pub mod prints;
+
 use discovery_table::DiscoveryTable;
 use numbers::Answer;
 use record_table::RecordTable;

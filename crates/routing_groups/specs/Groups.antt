@@ -8,10 +8,10 @@ use Rattle.numbers.specs.Said.{bad}
 use Rattle.world.specs.declared.World.{World}
 use Rattle.world.specs.declared.Reply.{Reply}
 use Rattle.world.specs.Worlds.{asked}
-use Rattle.route_questions.specs.Asked.{checkCall, routeStatusCall, routeCountCall, routeAtCall, nextHopCall, discoveryDeadlineCall, discoveryCountCall, discoveryAtCall, recordCountCall}
-use Rattle.route_lines.specs.Changed.{noteRouteErrorCall, noteDeliveryFailureCall, resetMtorrTriggersCall, markDiscoveryFailedCall, recordUsageCall, decayActivityCall, invalidateViaCall, removeRouteCall, restoreRouteCall, noteSourceRoutedFrameCall, noteRelayedDiscoveryCall, beginDiscoveryCall, beginManyToOneAdvertisementCall, acceptRouteRequestCall, acceptRouteReplyCall}
-use Rattle.table_lines.specs.Loaded.{putRecordCall, putRecordStored}
-use Rattle.record_lines.specs.Recorded.{storeRouteRecordCall, storeRouteRecordStore, removeRouteRecordCall, removeRouteRecordStore, routeToCall, routeToDefaultCall, recordAtCall}
+use Rattle.routing_groups.specs.Asked.{checkCall, routeStatusCall, routeCountCall, routeAtCall, nextHopCall, discoveryDeadlineCall, discoveryCountCall, discoveryAtCall, recordCountCall}
+use Rattle.routing_groups.specs.Changed.{noteRouteErrorCall, noteDeliveryFailureCall, resetMtorrTriggersCall, markDiscoveryFailedCall, recordUsageCall, decayActivityCall, invalidateViaCall, removeRouteCall, restoreRouteCall, noteSourceRoutedFrameCall, noteRelayedDiscoveryCall, beginDiscoveryCall, beginManyToOneAdvertisementCall, acceptRouteRequestCall, acceptRouteReplyCall}
+use Rattle.table_groups.specs.Loaded.{putRecordCall, putRecordStored}
+use Rattle.routing_groups.specs.Recorded.{storeRouteRecordCall, storeRouteRecordStore, removeRouteRecordCall, removeRouteRecordStore, routeToCall, routeToDefaultCall, recordAtCall}
 
 -- The calls that ask the routing state.
 unfoldable pub askRouting : World → ℕ → List ℕ → Reply

@@ -1,1 +1,4 @@
 pub mod Groups
+pub mod Asked
+pub mod Changed
+pub mod Recorded

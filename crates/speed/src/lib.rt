@@ -40,11 +40,11 @@ pub extern "C" fn warpteasel_speed_record(
     store: &mut [u16],
 ) -> u64 {
     let r = speed_routes::filled(size);
-    let s = speed_records::filled_records(r, store, size);
+    let s = speed_routes::records::filled_records(r, store, size);
     if exported {
-        speed_records::records(s, store, inputs)
+        speed_routes::records::records(s, store, inputs)
     } else {
-        speed_records::records_core(s, store, inputs)
+        speed_routes::records::records_core(s, store, inputs)
     }
 }
 
@@ -57,11 +57,11 @@ pub extern "C" fn warpteasel_speed_route_query(
     store: &mut [u16],
 ) -> u64 {
     let r = speed_routes::filled(size);
-    let s = speed_records::filled_records(r, store, size);
+    let s = speed_routes::records::filled_records(r, store, size);
     if exported {
-        speed_records::ways(s, store, inputs)
+        speed_routes::records::ways(s, store, inputs)
     } else {
-        speed_records::ways_core(s, store, inputs)
+        speed_routes::records::ways_core(s, store, inputs)
     }
 }
 
@@ -84,11 +84,11 @@ pub extern "C" fn warpteasel_speed_decision(
     store: &mut [u16],
 ) -> u64 {
     let r = speed_routes::filled(size);
-    let s = speed_records::filled_records(r, store, size);
-    let n = speed_decisions::filled_neighbors(size);
+    let s = speed_routes::records::filled_records(r, store, size);
+    let n = speed_links::decisions::filled_neighbors(size);
     if exported {
-        speed_decisions::decisions(s, n, store, inputs)
+        speed_links::decisions::decisions(s, n, store, inputs)
     } else {
-        speed_decisions::decisions_core(s, n, store, inputs)
+        speed_links::decisions::decisions_core(s, n, store, inputs)
     }
 }

@@ -1,5 +1,7 @@
 // What the benchmark runs of the link statuses: many calls on one state, in the exported form and in the core form.
 // A row of the inputs is eight numbers. The answers are added up, so that they can be compared with the Rust's.
+pub mod decisions;
+
 use link_status::LinkStatusCommand;
 use neighbor_queries::LinkStatus;
 use neighbors::Neighbors;

@@ -1,1 +1,2 @@
 pub mod CoreKept
+pub mod RecordsKept

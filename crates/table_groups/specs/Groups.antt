@@ -8,7 +8,7 @@ use Rattle.numbers.specs.Said.{bad}
 use Rattle.world.specs.declared.World.{World}
 use Rattle.world.specs.declared.Reply.{Reply}
 use Rattle.world.specs.Worlds.{asked}
-use Rattle.table_lines.specs.Loaded.{resetCall, putCountersCall, putRouteCall, putDiscoveryCall, putNeighbourCall, putWaitingCall, setRouteCountCall, setDiscoveryCountCall, setRecordCountCall, setNeighbourCountCall, setWaitingCountCall, setRouteKeyCall, setDiscoveryKeyCall, setRecordKeyCall, setNeighbourKeyCall, setWaitingKeyCall}
+use Rattle.table_groups.specs.Loaded.{resetCall, putCountersCall, putRouteCall, putDiscoveryCall, putNeighbourCall, putWaitingCall, setRouteCountCall, setDiscoveryCountCall, setRecordCountCall, setNeighbourCountCall, setWaitingCountCall, setRouteKeyCall, setDiscoveryKeyCall, setRecordKeyCall, setNeighbourKeyCall, setWaitingKeyCall}
 
 -- The lines that set a state up.
 unfoldable pub setUp : World → ℕ → List ℕ → Reply

@@ -1,4 +1,6 @@
 // The lines that set a state up or damage it, by their numbers, a group to a function.
+pub mod tables;
+
 use world::Reply;
 use world::World;
 ghost use mathlib.Core.Path.{_≡_};
@@ -9,22 +11,22 @@ pub fn set_up(world: World, number: u64, args: &[u64]) -> Reply
     ensures { λ r. ⌜ r ≡ setUp world number (now (args .entry)) ⌝ }
 {
     if number == 0 {
-        return table_lines::reset();
+        return tables::reset();
     }
     if number == 3 {
-        return table_lines::put_counters(world, args);
+        return tables::put_counters(world, args);
     }
     if number == 4 {
-        return table_lines::put_route(world, args);
+        return tables::put_route(world, args);
     }
     if number == 5 {
-        return table_lines::put_discovery(world, args);
+        return tables::put_discovery(world, args);
     }
     if number == 7 {
-        return table_lines::put_neighbour(world, args);
+        return tables::put_neighbour(world, args);
     }
     if number == 8 {
-        return table_lines::put_waiting(world, args);
+        return tables::put_waiting(world, args);
     }
     let answer = numbers::no_call();
     world::asked(world, answer)
@@ -35,34 +37,34 @@ pub fn damage(world: World, number: u64, args: &[u64]) -> Reply
     ensures { λ r. ⌜ r ≡ damageBy world number (now (args .entry)) ⌝ }
 {
     if number == 75 {
-        return table_lines::set_route_count(world, args);
+        return tables::set_route_count(world, args);
     }
     if number == 76 {
-        return table_lines::set_discovery_count(world, args);
+        return tables::set_discovery_count(world, args);
     }
     if number == 77 {
-        return table_lines::set_record_count(world, args);
+        return tables::set_record_count(world, args);
     }
     if number == 78 {
-        return table_lines::set_neighbour_count(world, args);
+        return tables::set_neighbour_count(world, args);
     }
     if number == 79 {
-        return table_lines::set_waiting_count(world, args);
+        return tables::set_waiting_count(world, args);
     }
     if number == 80 {
-        return table_lines::set_route_key(world, args);
+        return tables::set_route_key(world, args);
     }
     if number == 81 {
-        return table_lines::set_discovery_key(world, args);
+        return tables::set_discovery_key(world, args);
     }
     if number == 82 {
-        return table_lines::set_record_key(world, args);
+        return tables::set_record_key(world, args);
     }
     if number == 83 {
-        return table_lines::set_neighbour_key(world, args);
+        return tables::set_neighbour_key(world, args);
     }
     if number == 84 {
-        return table_lines::set_waiting_key(world, args);
+        return tables::set_waiting_key(world, args);
     }
     let answer = numbers::no_call();
     world::asked(world, answer)

@@ -3,7 +3,7 @@ use borrow.Author.Needs.{needs}
 use denote.Ref.{now}
 use native.Mathlib.Omega.{arith}
 use Rattle.decision_lines.specs.Lines.{resolveDefaultCall}
-use Rattle.decision_numbers.proofs.Modes.{mode-near}
+use Rattle.decision_lines.proofs.Modes.{mode-near}
 use Rattle.decision_lines.proofs.resolve_default.Statement.{statement}
 use Rattle.decision_lines.proofs.resolve_default.Tie as tie
 
