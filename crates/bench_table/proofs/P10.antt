@@ -1,5 +1,5 @@
 -- P10: "relays [A,B] from S, distinct: A has [B], B has [], S has [A,B]; the second time unchanged."
--- For any three addresses and whatever records are held.
+-- For any three addresses and whatever records are held; and from no record, with three addresses, the whole table and that it was changed.
 use mathlib.Core.Bool.{true, false, not}
 use mathlib.Core.List.{List, [], _∷_}
 use mathlib.Core.Option.{some}
@@ -8,6 +8,7 @@ use borrow.Author.Tests.{eq-eqb}
 use Rattle.types.specs.declared.Nwk.{Nwk}
 use Rattle.standard.specs.Ordered.{Ascending, lookup, put}
 use Rattle.standard.specs.Records.{RouteRecord, addressKey, recordFor, relaysStored, recordStored, sameRelays, otherRelays, recordChanged}
+use Rattle.standard.specs.Route.{nwk}
 use Rattle.flat_map.proofs.Ordered.{lookup-put-same, lookup-put-other, ascending-put, put-id}
 
 -- a list is the same as itself
@@ -57,3 +58,11 @@ module _ (a b s : Nwk) (not-ab : a .0 ≡ b .0 → ⊥) (not-as : a .0 ≡ s .0 
 
         two : put addressKey (recordFor b []) after ≡ after
         two = put-id addressKey (recordFor b []) after order p10-second
+
+pub p10-records : recordStored (nwk 3) (nwk 1 ∷ nwk 2 ∷ []) [] ≡ recordFor (nwk 1) (nwk 2 ∷ []) ∷ recordFor (nwk 2) [] ∷ recordFor (nwk 3) (nwk 1 ∷ nwk 2 ∷ []) ∷ []
+unfolding put relaysStored recordStored
+p10-records = refl
+
+pub p10-changed : recordChanged (nwk 3) (nwk 1 ∷ nwk 2 ∷ []) [] ≡ true
+unfolding lookup put relaysStored recordStored recordChanged
+p10-changed = refl
