@@ -1,47 +1,73 @@
--- The call of each number: its group by a table, and the call in its group.
+-- The call of each number: its group by a table, and the call in its group. And the lines that print the world.
 -- Assumes nothing.
 use Prim.Native.Nat.{ℕ}
 use mathlib.Core.Bool.{cond}
-use mathlib.Core.List.{List, [], _∷_}
-use lib.Dec.{eqb}
+use mathlib.Core.List.{List, [], _∷_, _++_}
+use lib.Dec.{eqb, ltb}
 use lib.ListN.{getD}
-use Rattle.numbers.specs.Said.{bad}
+use Rattle.numbers.specs.Said.{Said, ok, bad}
+use Rattle.routing.specs.declared.Routing.{Routing}
+use Rattle.neighbors.specs.declared.Neighbors.{Neighbors}
+use Rattle.route_loads.specs.declared.RoutingReply.{RoutingReply}
+use Rattle.route_loads.specs.Prints.{routingLines}
+use Rattle.neighbor_loads.specs.declared.NeighborsReply.{NeighborsReply}
+use Rattle.neighbor_loads.specs.Prints.{neighborLines}
 use Rattle.world.specs.declared.World.{World}
 use Rattle.world.specs.declared.Reply.{Reply}
-use Rattle.world.specs.Worlds.{asked}
-use Rattle.table_groups.specs.Groups.{setUp, damageBy}
-use Rattle.routing_groups.specs.Groups.{askRouting, changeRoutes, changeSearches, storeCall, storeAfter}
+use Rattle.world.specs.Worlds.{freshWorld, asked}
+use Rattle.routing_groups.specs.Groups.{askRouting, askRecords, changeRoutes, changeSearches, loadRoutes, changeRecords, storeAfter}
+use Rattle.neighbor_groups.specs.Groups.{askNeighbors, askChildren, listNeighbors, noteNeighbors, changeChildren, loadNeighbors}
 use Rattle.decision_lines.specs.Lines.{decideBy}
-use Rattle.neighbor_groups.specs.Groups.{askNeighbors, askChildren, listNeighbors, noteNeighbors, changeChildren}
 
--- the group of each number, 0 for what is no call here
+-- the group of each number: 1 to 6 ask, 7 to 10 change the routing state, 11 to 13 the neighbours, and 14 makes both fresh; 0 for what is no call here
 unfoldable pub groups : List ℕ
-groups = 9 ∷ 0 ∷ 1 ∷ 9 ∷ 9 ∷ 9 ∷ 11 ∷ 9 ∷ 9 ∷ 2 ∷ 2 ∷ 2 ∷ 1 ∷ 1 ∷ 1 ∷ 1 ∷ 2 ∷ 2 ∷ 2 ∷ 2 ∷ 2 ∷ 3 ∷ 11 ∷ 11 ∷ 3 ∷ 3 ∷ 1 ∷ 11 ∷ 11 ∷ 3 ∷ 3 ∷ 3 ∷ 3 ∷ 4 ∷ 7 ∷ 4 ∷ 4 ∷ 4 ∷ 6 ∷ 6 ∷ 6 ∷ 4 ∷ 4 ∷ 4 ∷ 6 ∷ 5 ∷ 5 ∷ 5 ∷ 8 ∷ 8 ∷ 7 ∷ 8 ∷ 6 ∷ 5 ∷ 8 ∷ 8 ∷ 8 ∷ 5 ∷ 8 ∷ 7 ∷ 5 ∷ 6 ∷ 6 ∷ 7 ∷ 7 ∷ 7 ∷ 7 ∷ 8 ∷ 12 ∷ 12 ∷ 12 ∷ 1 ∷ 1 ∷ 1 ∷ 11 ∷ 10 ∷ 10 ∷ 10 ∷ 10 ∷ 10 ∷ 10 ∷ 10 ∷ 10 ∷ 10 ∷ 10 ∷ 0 ∷ 0 ∷ []
+groups = 14 ∷ 0 ∷ 1 ∷ 9 ∷ 9 ∷ 9 ∷ 10 ∷ 13 ∷ 13 ∷ 7 ∷ 7 ∷ 7 ∷ 1 ∷ 1 ∷ 1 ∷ 1 ∷ 7 ∷ 7 ∷ 7 ∷ 7 ∷ 7 ∷ 8 ∷ 10 ∷ 10 ∷ 8 ∷ 8 ∷ 1 ∷ 5 ∷ 5 ∷ 8 ∷ 8 ∷ 8 ∷ 8 ∷ 2 ∷ 11 ∷ 2 ∷ 2 ∷ 2 ∷ 4 ∷ 4 ∷ 4 ∷ 2 ∷ 2 ∷ 2 ∷ 4 ∷ 3 ∷ 3 ∷ 3 ∷ 12 ∷ 12 ∷ 11 ∷ 12 ∷ 4 ∷ 3 ∷ 12 ∷ 12 ∷ 12 ∷ 3 ∷ 12 ∷ 11 ∷ 3 ∷ 4 ∷ 4 ∷ 11 ∷ 11 ∷ 11 ∷ 11 ∷ 12 ∷ 6 ∷ 6 ∷ 6 ∷ 1 ∷ 1 ∷ 1 ∷ 5 ∷ 9 ∷ 9 ∷ 9 ∷ 13 ∷ 13 ∷ 9 ∷ 9 ∷ 9 ∷ 13 ∷ 13 ∷ 0 ∷ 0 ∷ []
 
 unfoldable pub groupOf : ℕ → ℕ
 groupOf n = getD groups n 0
 
--- a call of a group that is not lent the store
-unfoldable pub callPlain : World → ℕ → ℕ → List ℕ → Reply
-callPlain w g n args =
-    cond (eqb g 1) (askRouting w n args)
-    (cond (eqb g 2) (changeRoutes w n args)
-    (cond (eqb g 3) (changeSearches w n args)
-    (cond (eqb g 4) (askNeighbors w n args)
-    (cond (eqb g 5) (askChildren w n args)
-    (cond (eqb g 6) (listNeighbors w n args)
-    (cond (eqb g 7) (noteNeighbors w n args)
-    (cond (eqb g 8) (changeChildren w n args)
-    (cond (eqb g 9) (setUp w n args)
-    (cond (eqb g 10) (damageBy w n args)
-    (asked w bad))))))))))
+-- a call that asks
+unfoldable pub askBy : World → ℕ → ℕ → List ℕ → List ℕ → Said
+askBy w g n args store =
+    cond (eqb g 1) (askRouting (w .routing) n args)
+    (cond (eqb g 2) (askNeighbors (w .neighbors) n args)
+    (cond (eqb g 3) (askChildren (w .neighbors) n args)
+    (cond (eqb g 4) (listNeighbors (w .neighbors) n args)
+    (cond (eqb g 5) (askRecords (w .routing) n args store)
+    (cond (eqb g 6) (decideBy (w .routing) (w .neighbors) n args store)
+    bad)))))
+
+-- a call that changes the routing state and is not lent the store
+unfoldable pub routesBy : Routing → ℕ → ℕ → List ℕ → RoutingReply
+routesBy s g n args = cond (eqb g 7) (changeRoutes s n args) (cond (eqb g 8) (changeSearches s n args) (loadRoutes s n args))
+
+-- a call that changes the neighbours
+unfoldable pub neighborsBy : Neighbors → ℕ → ℕ → List ℕ → NeighborsReply
+neighborsBy s g n args = cond (eqb g 11) (noteNeighbors s n args) (cond (eqb g 12) (changeChildren s n args) (loadNeighbors s n args))
+
+-- what a call on one state leaves of the world
+abbrev pub routedBy : World → RoutingReply → Reply
+routedBy w x = record { world = record { routing = x .state; neighbors = w .neighbors }; answer = x .answer }
+
+abbrev pub neighbouredBy : World → NeighborsReply → Reply
+neighbouredBy w x = record { world = record { routing = w .routing; neighbors = x .state }; answer = x .answer }
+
+-- a call by its group
+unfoldable pub callBy : World → ℕ → ℕ → List ℕ → List ℕ → Reply
+callBy w g n args store =
+    cond (ltb g 7) (asked w (askBy w g n args store))
+    (cond (eqb g 10) (routedBy w (changeRecords (w .routing) n args store))
+    (cond (ltb g 10) (routedBy w (routesBy (w .routing) g n args))
+    (cond (ltb g 14) (neighbouredBy w (neighborsBy (w .neighbors) g n args))
+    (asked freshWorld (ok [])))))
 
 -- The call of a number, and the store after it.
 unfoldable pub callOf : World → ℕ → List ℕ → List ℕ → Reply
-callOf w n args store =
-    cond (eqb (groupOf n) 11) (storeCall w n args store)
-    (cond (eqb (groupOf n) 12) (decideBy w n args store)
-    (callPlain w (groupOf n) n args))
+callOf w n args store = callBy w (groupOf n) n args store
 
 unfoldable pub storeOf : World → ℕ → List ℕ → List ℕ → List ℕ
-storeOf w n args store = cond (eqb (groupOf n) 11) (storeAfter w n args store) store
+storeOf w n args store = cond (eqb (groupOf n) 10) (storeAfter (w .routing) n args store) store
+
+-- the lines that print the world: counters, routes, discoveries, records, neighbours, waiting
+unfoldable pub worldLines : World → List ℕ → List (List ℕ)
+worldLines w store = routingLines (w .routing) store ++ neighborLines (w .neighbors)

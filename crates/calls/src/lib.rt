@@ -1,100 +1,103 @@
 // One call given as numbers, answered as numbers.
+use neighbor_loads::NeighborsReply;
+use neighbors::Neighbors;
 use numbers::Answer;
+use route_loads::RoutingReply;
+use routing::Routing;
 use world::Reply;
 use world::World;
 ghost use mathlib.Core.Path.{_≡_};
 ghost use Rattle.numbers.specs.Said.{spoken};
 ghost use Rattle.lines.specs.Lines.{lineSaid};
-ghost use Rattle.table_groups.specs.Loaded.{worldLines};
-ghost use Rattle.calls.specs.Groups.{groupOf, callPlain, callOf, storeOf};
+ghost use Rattle.calls.specs.Groups.{groupOf, askBy, routesBy, neighborsBy, callOf, routedBy, neighbouredBy, storeOf, worldLines};
 
-// The group of each number, 0 for what is no call here.
+// The group of each number: 1 to 6 ask, 7 to 10 change the routing state, 11 to 13 the neighbours, and 14 makes both fresh; 0 for what is no call here.
 const GROUPS: [u64; 87] = [
-    9,
+    14,
     0,
     1,
     9,
     9,
     9,
+    10,
+    13,
+    13,
+    7,
+    7,
+    7,
+    1,
+    1,
+    1,
+    1,
+    7,
+    7,
+    7,
+    7,
+    7,
+    8,
+    10,
+    10,
+    8,
+    8,
+    1,
+    5,
+    5,
+    8,
+    8,
+    8,
+    8,
+    2,
     11,
+    2,
+    2,
+    2,
+    4,
+    4,
+    4,
+    2,
+    2,
+    2,
+    4,
+    3,
+    3,
+    3,
+    12,
+    12,
+    11,
+    12,
+    4,
+    3,
+    12,
+    12,
+    12,
+    3,
+    12,
+    11,
+    3,
+    4,
+    4,
+    11,
+    11,
+    11,
+    11,
+    12,
+    6,
+    6,
+    6,
+    1,
+    1,
+    1,
+    5,
     9,
     9,
-    2,
-    2,
-    2,
-    1,
-    1,
-    1,
-    1,
-    2,
-    2,
-    2,
-    2,
-    2,
-    3,
-    11,
-    11,
-    3,
-    3,
-    1,
-    11,
-    11,
-    3,
-    3,
-    3,
-    3,
-    4,
-    7,
-    4,
-    4,
-    4,
-    6,
-    6,
-    6,
-    4,
-    4,
-    4,
-    6,
-    5,
-    5,
-    5,
-    8,
-    8,
-    7,
-    8,
-    6,
-    5,
-    8,
-    8,
-    8,
-    5,
-    8,
-    7,
-    5,
-    6,
-    6,
-    7,
-    7,
-    7,
-    7,
-    8,
-    12,
-    12,
-    12,
-    1,
-    1,
-    1,
-    11,
-    10,
-    10,
-    10,
-    10,
-    10,
-    10,
-    10,
-    10,
-    10,
-    10,
+    9,
+    13,
+    13,
+    9,
+    9,
+    9,
+    13,
+    13,
     0,
     0,
 ];
@@ -110,42 +113,75 @@ pub fn group(number: u64) -> u64
     0
 }
 
-// A call that is not lent the store.
-fn plain(world: World, group: u64, number: u64, args: &[u64]) -> Reply
-    ensures { λ r. ⌜ r ≡ callPlain world group number (now (args .entry)) ⌝ }
+// A call that asks.
+fn ask(world: World, group: u64, number: u64, args: &[u64], store: &[u16]) -> Answer
+    ensures { λ r. ⌜ r ≡ spoken (askBy world group number (now (args .entry)) (now (store .entry))) ⌝ }
 {
+    let routing = world.routing;
+    let neighbors = world.neighbors;
     if group == 1 {
-        return routing_groups::ask_routing(world, number, args);
+        return routing_groups::ask_routing(routing, number, args);
     }
     if group == 2 {
-        return routing_groups::change_routes(world, number, args);
+        return neighbor_groups::ask_neighbors(neighbors, number, args);
     }
     if group == 3 {
-        return routing_groups::change_searches(world, number, args);
+        return neighbor_groups::ask_children(neighbors, number, args);
     }
     if group == 4 {
-        return neighbor_groups::ask_neighbors(world, number, args);
+        return neighbor_groups::list_neighbors(neighbors, number, args);
     }
     if group == 5 {
-        return neighbor_groups::ask_children(world, number, args);
+        return routing_groups::ask_records(routing, number, args, store);
     }
     if group == 6 {
-        return neighbor_groups::list_neighbors(world, number, args);
+        return decision_lines::decide(routing, neighbors, number, args, store);
     }
+    numbers::no_call()
+}
+
+// A call that changes the routing state and is not lent the store.
+fn change_routing(routing: Routing, group: u64, number: u64, args: &[u64]) -> RoutingReply
+    ensures { λ r. ⌜ r ≡ routesBy routing group number (now (args .entry)) ⌝ }
+{
     if group == 7 {
-        return neighbor_groups::note_neighbors(world, number, args);
+        return routing_groups::change_routes(routing, number, args);
     }
     if group == 8 {
-        return neighbor_groups::change_children(world, number, args);
+        return routing_groups::change_searches(routing, number, args);
     }
-    if group == 9 {
-        return table_groups::set_up(world, number, args);
+    routing_groups::load_routes(routing, number, args)
+}
+
+// A call that changes the neighbours.
+fn change_neighbors(state: Neighbors, group: u64, number: u64, args: &[u64]) -> NeighborsReply
+    ensures { λ r. ⌜ r ≡ neighborsBy state group number (now (args .entry)) ⌝ }
+{
+    if group == 11 {
+        return neighbor_groups::note_neighbors(state, number, args);
     }
-    if group == 10 {
-        return table_groups::damage(world, number, args);
+    if group == 12 {
+        return neighbor_groups::change_children(state, number, args);
     }
-    let answer = numbers::no_call();
-    world::asked(world, answer)
+    neighbor_groups::load_neighbors(state, number, args)
+}
+
+// The routing state and the answer of a call on it, put into the world.
+fn routed(world: World, x: RoutingReply) -> Reply
+    ensures { λ r. ⌜ r ≡ routedBy world x ⌝ }
+{
+    let state = x.state;
+    let answer = x.answer;
+    world::routed(world, state, answer)
+}
+
+// The neighbours and the answer of a call on them, put into the world.
+fn neighboured(world: World, x: NeighborsReply) -> Reply
+    ensures { λ r. ⌜ r ≡ neighbouredBy world x ⌝ }
+{
+    let state = x.state;
+    let answer = x.answer;
+    world::neighboured(world, state, answer)
 }
 
 // The call of a number. What is no call here leaves the world and the store.
@@ -154,18 +190,38 @@ pub fn call(world: World, number: u64, args: &[u64], store: &mut [u16]) -> Reply
     ensures { λ _. ⌜ now (store .exit) ≡ storeOf world number (now (args .entry)) (now (store .entry)) ⌝ }
 {
     let g = group(number);
-    if g == 11 {
-        return routing_groups::store_call(world, number, args, store);
+    if g < 7 {
+        let answer = ask(world, g, number, args, store);
+        return world::asked(world, answer);
     }
-    if g == 12 {
-        return decision_lines::decide(world, number, args, store);
+    if g == 10 {
+        let routing = world.routing;
+        return routed(
+            world,
+            routing_groups::change_records(routing, number, args, store),
+        );
     }
-    plain(world, g, number, args)
+    if g < 10 {
+        let routing = world.routing;
+        return routed(world, change_routing(routing, g, number, args));
+    }
+    if g < 14 {
+        let neighbors = world.neighbors;
+        return neighboured(world, change_neighbors(neighbors, g, number, args));
+    }
+    world::asked(world::fresh(), numbers::done())
 }
 
 // The line at a place of those that print the world, and no call from the last on.
 pub fn table_line(world: World, index: u64, store: &[u16]) -> Answer
     ensures { λ r. ⌜ r ≡ spoken (lineSaid (worldLines world (now (store .entry))) index) ⌝ }
 {
-    table_groups::tables::table_line(world, index, store)
+    let s = world.routing;
+    let n = route_loads::prints::line_count(s);
+    let i = index as usize;
+    if i < n {
+        return route_loads::prints::line(s, i, store);
+    }
+    let b = world.neighbors;
+    neighbor_loads::prints::line(b, i - n)
 }

@@ -2,59 +2,66 @@
 pub mod arguments;
 pub mod header;
 
-use world::Reply;
-use world::World;
+use neighbors::Neighbors;
+use numbers::Answer;
+use routing::Routing;
 ghost use mathlib.Core.Path.{_≡_};
+ghost use Rattle.numbers.specs.Said.{spoken};
 ghost use Rattle.decision_lines.specs.Lines.{clearCall, resolveCall, resolveDefaultCall, decideBy};
 
 // The end device initiator bit of a frame to be relayed.
-pub fn clear_end_device_initiator_for_relay(world: World, args: &[u64]) -> Reply
-    ensures { λ r. ⌜ r ≡ clearCall world (now (args .entry)) ⌝ }
+pub fn clear_end_device_initiator_for_relay(state: Neighbors, args: &[u64]) -> Answer
+    ensures { λ r. ⌜ r ≡ spoken (clearCall state (now (args .entry))) ⌝ }
 {
-    let state = world.neighbors;
     let header = header::header(args, 0);
     let said = relay_header::clear_end_device_initiator_for_relay(state, header);
-    world::asked(world, arguments::clear_answer(said))
+    arguments::clear_answer(said)
 }
 
 // The next hop by a policy.
-pub fn resolve(world: World, args: &[u64], store: &[u16]) -> Reply
-    ensures { λ r. ⌜ r ≡ resolveCall world (now (args .entry)) (now (store .entry)) ⌝ }
+pub fn resolve(routing: Routing, neighbors: Neighbors, args: &[u64], store: &[u16]) -> Answer
+    ensures { λ r. ⌜ r ≡ spoken (resolveCall routing neighbors (now (args .entry)) (now (store .entry))) ⌝ }
 {
-    let routing = world.routing;
-    let neighbors = world.neighbors;
     let policy = arguments::policy(args);
     let mode = arguments::mode(args, 3);
     let header = header::header(args, arguments::after_mode(args, 3));
     let said = next_hop::resolve(routing, neighbors, store, header, mode, policy);
-    world::asked(world, arguments::resolve_answer(said))
+    arguments::resolve_answer(said)
 }
 
 // The next hop by the default policy.
-pub fn resolve_default(world: World, args: &[u64], store: &[u16]) -> Reply
-    ensures { λ r. ⌜ r ≡ resolveDefaultCall world (now (args .entry)) (now (store .entry)) ⌝ }
+pub fn resolve_default(
+    routing: Routing,
+    neighbors: Neighbors,
+    args: &[u64],
+    store: &[u16],
+) -> Answer
+    ensures { λ r. ⌜ r ≡ spoken (resolveDefaultCall routing neighbors (now (args .entry)) (now (store .entry))) ⌝ }
 {
-    let routing = world.routing;
-    let neighbors = world.neighbors;
     let mode = arguments::mode(args, 0);
     let header = header::header(args, arguments::after_mode(args, 0));
     let said = next_hop::resolve_default(routing, neighbors, store, header, mode);
-    world::asked(world, arguments::resolve_answer(said))
+    arguments::resolve_answer(said)
 }
 
 // The decisions by their numbers.
-pub fn decide(world: World, number: u64, args: &[u64], store: &[u16]) -> Reply
-    ensures { λ r. ⌜ r ≡ decideBy world number (now (args .entry)) (now (store .entry)) ⌝ }
+pub fn decide(
+    routing: Routing,
+    neighbors: Neighbors,
+    number: u64,
+    args: &[u64],
+    store: &[u16],
+) -> Answer
+    ensures { λ r. ⌜ r ≡ spoken (decideBy routing neighbors number (now (args .entry)) (now (store .entry))) ⌝ }
 {
     if number == 68 {
-        return clear_end_device_initiator_for_relay(world, args);
+        return clear_end_device_initiator_for_relay(neighbors, args);
     }
     if number == 69 {
-        return resolve(world, args, store);
+        return resolve(routing, neighbors, args, store);
     }
     if number == 70 {
-        return resolve_default(world, args, store);
+        return resolve_default(routing, neighbors, args, store);
     }
-    let answer = numbers::no_call();
-    world::asked(world, answer)
+    numbers::no_call()
 }

@@ -4,6 +4,8 @@ use Prim.Native.Nat.{ℕ}
 use mathlib.Core.List.{List}
 use Rattle.numbers.specs.Read.{numberAt, byteAt, shortAt, nwkAt, eui64At}
 use Rattle.neighbors.specs.declared.Neighbors.{Neighbors}
+use Rattle.neighbor_loads.specs.declared.NeighborsReply.{NeighborsReply}
+use Rattle.neighbor_loads.specs.Loads.{replied}
 use Rattle.children.specs.declared.TruthOutcome.{TruthOutcome}
 use Rattle.children.specs.declared.NwkOutcome.{NwkOutcome}
 use Rattle.children.specs.declared.Removal.{Removal}
@@ -15,47 +17,44 @@ use Rattle.neighbor_answers.specs.Answers.{truthSaid, nwkSaid, childrenSaid, an
 use Rattle.child_arguments.specs.declared.Poll.{Poll}
 use Rattle.child_arguments.specs.Arguments.{pollOf, childOf, namesOf, commandOf}
 use Rattle.neighbor_groups.specs.Events.{changed}
-use Rattle.world.specs.declared.World.{World}
-use Rattle.world.specs.declared.Reply.{Reply}
-use Rattle.world.specs.Worlds.{neighboured}
 
 -- what is answered, and the state after it
-abbrev pub truthReply : World → TruthOutcome → Reply
-truthReply w o = neighboured w (o .state) (truthSaid (o .answer))
+abbrev pub truthReply : TruthOutcome → NeighborsReply
+truthReply o = replied (o .state) (truthSaid (o .answer))
 
-abbrev pub nwkReply : World → NwkOutcome → Reply
-nwkReply w o = neighboured w (o .state) (nwkSaid (o .answer))
+abbrev pub nwkReply : NwkOutcome → NeighborsReply
+nwkReply o = replied (o .state) (nwkSaid (o .answer))
 
-abbrev pub removalReply : World → Removal → Reply
-removalReply w o = neighboured w (o .state) (childrenSaid (o .answer) (o .removed))
+abbrev pub removalReply : Removal → NeighborsReply
+removalReply o = replied (o .state) (childrenSaid (o .answer) (o .removed))
 
-abbrev pub announcedReply : World → Announced → Reply
-announcedReply w o = neighboured w (o .state) (announcedSaid (o .answer) (o .claimed) (o .removed))
+abbrev pub announcedReply : Announced → NeighborsReply
+announcedReply o = replied (o .state) (announcedSaid (o .answer) (o .claimed) (o .removed))
 
 abbrev pub polled : Neighbors → Poll → TruthOutcome
 polled s p = children.refreshChildTimeout s (p .eui64) (p .nwk) (p .now)
 
-unfoldable pub refreshChildTimeoutCall : World → List ℕ → Reply
-refreshChildTimeoutCall w args = truthReply w (polled (w .neighbors) (pollOf args))
+unfoldable pub refreshChildTimeoutCall : Neighbors → List ℕ → NeighborsReply
+refreshChildTimeoutCall s args = truthReply (polled s (pollOf args))
 
-unfoldable pub setChildTimeoutCall : World → List ℕ → Reply
-setChildTimeoutCall w args = truthReply w (children.setChildTimeout (w .neighbors) (nwkAt args 0) (numberAt args 1) (shortAt args 2) (numberAt args 3))
+unfoldable pub setChildTimeoutCall : Neighbors → List ℕ → NeighborsReply
+setChildTimeoutCall s args = truthReply (children.setChildTimeout s (nwkAt args 0) (numberAt args 1) (shortAt args 2) (numberAt args 3))
 
-unfoldable pub takeChildCall : World → List ℕ → Reply
-takeChildCall w args = nwkReply w (children.takeChild (w .neighbors) (eui64At args 0))
+unfoldable pub takeChildCall : Neighbors → List ℕ → NeighborsReply
+takeChildCall s args = nwkReply (children.takeChild s (eui64At args 0))
 
-unfoldable pub removeClaimedChildrenCall : World → List ℕ → Reply
-removeClaimedChildrenCall w args = removalReply w (announcements.removeClaimedChildren (w .neighbors) (namesOf args))
+unfoldable pub removeClaimedChildrenCall : Neighbors → List ℕ → NeighborsReply
+removeClaimedChildrenCall s args = removalReply (announcements.removeClaimedChildren s (namesOf args))
 
-unfoldable pub processParentAnnceCall : World → List ℕ → Reply
-processParentAnnceCall w args = announcedReply w (announcements.processParentAnnce (w .neighbors) (namesOf args))
+unfoldable pub processParentAnnceCall : Neighbors → List ℕ → NeighborsReply
+processParentAnnceCall s args = announcedReply (announcements.processParentAnnce s (namesOf args))
 
-unfoldable pub evictTimedOutChildrenCall : World → List ℕ → Reply
-evictTimedOutChildrenCall w args = removalReply w (children.evictTimedOutChildren (w .neighbors) (numberAt args 0))
+unfoldable pub evictTimedOutChildrenCall : Neighbors → List ℕ → NeighborsReply
+evictTimedOutChildrenCall s args = removalReply (children.evictTimedOutChildren s (numberAt args 0))
 
-unfoldable pub upsertChildCall : World → List ℕ → Reply
-upsertChildCall w args = changed w (children.upsertChild (w .neighbors) (childOf args) (numberAt args 6))
+unfoldable pub upsertChildCall : Neighbors → List ℕ → NeighborsReply
+upsertChildCall s args = changed (children.upsertChild s (childOf args) (numberAt args 6))
 
 -- OWN EUI NWK Q FIRST LAST NOW, then the statuses
-unfoldable pub onLinkStatusCall : World → List ℕ → Reply
-onLinkStatusCall w args = nwkReply w (onLinkStatus (w .neighbors) (nwkAt args 0) (eui64At args 1) (nwkAt args 2) (byteAt args 3) (commandOf args) (numberAt args 6))
+unfoldable pub onLinkStatusCall : Neighbors → List ℕ → NeighborsReply
+onLinkStatusCall s args = nwkReply (onLinkStatus s (nwkAt args 0) (eui64At args 1) (nwkAt args 2) (byteAt args 3) (commandOf args) (numberAt args 6))

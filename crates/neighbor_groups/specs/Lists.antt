@@ -20,9 +20,6 @@ use Rattle.neighbors.specs.State.{wellFormed, rows}
 use Rattle.neighbors.specs.Answers.{entryIn, refusedEntry}
 use Rattle.neighbors.specs.Queries as queries
 use Rattle.neighbor_answers.specs.Answers.{qualitySaid, costSaid, isChildSaid, childrenSaid, eui64sSaid, nwksSaid, statusesSaid}
-use Rattle.world.specs.declared.World.{World}
-use Rattle.world.specs.declared.Reply.{Reply}
-use Rattle.world.specs.Worlds.{asked}
 
 -- the neighbour of an extended address, for the questions that are asked of an entry
 unfoldable pub entryOf : Neighbors → Eui64 → EntryAnswer
@@ -41,23 +38,23 @@ nwksIn a = nwksSaid (a .answer) (a .list)
 abbrev pub statusesIn : StatusesAnswer → Said
 statusesIn a = statusesSaid (a .answer) (a .list)
 
-unfoldable pub lqaCall : World → List ℕ → Reply
-lqaCall w args = asked w (qualitySaid (entryOf (w .neighbors) (eui64At args 0)))
+unfoldable pub lqaCall : Neighbors → List ℕ → Said
+lqaCall s args = qualitySaid (entryOf s (eui64At args 0))
 
-unfoldable pub incomingLinkCostCall : World → List ℕ → Reply
-incomingLinkCostCall w args = asked w (costSaid (entryOf (w .neighbors) (eui64At args 0)))
+unfoldable pub incomingLinkCostCall : Neighbors → List ℕ → Said
+incomingLinkCostCall s args = costSaid (entryOf s (eui64At args 0))
 
-unfoldable pub isChildCall : World → List ℕ → Reply
-isChildCall w args = asked w (isChildSaid (entryOf (w .neighbors) (eui64At args 0)))
+unfoldable pub isChildCall : Neighbors → List ℕ → Said
+isChildCall s args = isChildSaid (entryOf s (eui64At args 0))
 
-unfoldable pub sleepyChildrenCall : World → List ℕ → Reply
-sleepyChildrenCall w args = asked w (childrenIn (queries.sleepyChildren (w .neighbors)))
+unfoldable pub sleepyChildrenCall : Neighbors → List ℕ → Said
+sleepyChildrenCall s args = childrenIn (queries.sleepyChildren s)
 
-unfoldable pub endDeviceChildrenCall : World → List ℕ → Reply
-endDeviceChildrenCall w args = asked w (eui64sIn (queries.endDeviceChildren (w .neighbors)))
+unfoldable pub endDeviceChildrenCall : Neighbors → List ℕ → Said
+endDeviceChildrenCall s args = eui64sIn (queries.endDeviceChildren s)
 
-unfoldable pub expectedBroadcastRelayersCall : World → List ℕ → Reply
-expectedBroadcastRelayersCall w args = asked w (nwksIn (queries.expectedBroadcastRelayers (w .neighbors)))
+unfoldable pub expectedBroadcastRelayersCall : Neighbors → List ℕ → Said
+expectedBroadcastRelayersCall s args = nwksIn (queries.expectedBroadcastRelayers s)
 
-unfoldable pub linkStatusEntriesCall : World → List ℕ → Reply
-linkStatusEntriesCall w args = asked w (statusesIn (queries.linkStatusEntries (w .neighbors)))
+unfoldable pub linkStatusEntriesCall : Neighbors → List ℕ → Said
+linkStatusEntriesCall s args = statusesIn (queries.linkStatusEntries s)

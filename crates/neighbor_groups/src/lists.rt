@@ -2,11 +2,11 @@
 use neighbors::EntryAnswer;
 use neighbors::Neighbors;
 use neighbors::Presence;
+use numbers::Answer;
 use types::Eui64;
 use types::Refusal;
-use world::Reply;
-use world::World;
 ghost use mathlib.Core.Path.{_≡_};
+ghost use Rattle.numbers.specs.Said.{spoken};
 ghost use Rattle.neighbor_groups.specs.Lists.{entryOf, lqaCall, incomingLinkCostCall, isChildCall, sleepyChildrenCall, endDeviceChildrenCall, expectedBroadcastRelayersCall, linkStatusEntriesCall};
 
 // The neighbour of an extended address.
@@ -38,72 +38,65 @@ fn entry_of(state: Neighbors, eui64: Eui64) -> EntryAnswer
 }
 
 // The quality at which a neighbour is heard.
-pub fn lqa(world: World, args: &[u64]) -> Reply
-    ensures { λ r. ⌜ r ≡ lqaCall world (now (args .entry)) ⌝ }
+pub fn lqa(state: Neighbors, args: &[u64]) -> Answer
+    ensures { λ r. ⌜ r ≡ spoken (lqaCall state (now (args .entry))) ⌝ }
 {
-    let state = world.neighbors;
     let said = entry_of(state, numbers::eui64(args, 0));
-    world::asked(world, neighbor_answers::quality_answer(said))
+    neighbor_answers::quality_answer(said)
 }
 
 // The incoming cost of a neighbour's link.
-pub fn incoming_link_cost(world: World, args: &[u64]) -> Reply
-    ensures { λ r. ⌜ r ≡ incomingLinkCostCall world (now (args .entry)) ⌝ }
+pub fn incoming_link_cost(state: Neighbors, args: &[u64]) -> Answer
+    ensures { λ r. ⌜ r ≡ spoken (incomingLinkCostCall state (now (args .entry))) ⌝ }
 {
-    let state = world.neighbors;
     let said = entry_of(state, numbers::eui64(args, 0));
-    world::asked(world, neighbor_answers::cost_answer(said))
+    neighbor_answers::cost_answer(said)
 }
 
 // Whether a neighbour is a child.
-pub fn is_child(world: World, args: &[u64]) -> Reply
-    ensures { λ r. ⌜ r ≡ isChildCall world (now (args .entry)) ⌝ }
+pub fn is_child(state: Neighbors, args: &[u64]) -> Answer
+    ensures { λ r. ⌜ r ≡ spoken (isChildCall state (now (args .entry))) ⌝ }
 {
-    let state = world.neighbors;
     let said = entry_of(state, numbers::eui64(args, 0));
-    world::asked(world, neighbor_answers::is_child_answer(said))
+    neighbor_answers::is_child_answer(said)
 }
 
 // Every child that sleeps when idle.
-pub fn sleepy_children(world: World, args: &[u64]) -> Reply
-    ensures { λ r. ⌜ r ≡ sleepyChildrenCall world (now (args .entry)) ⌝ }
+pub fn sleepy_children(state: Neighbors, args: &[u64]) -> Answer
+    ensures { λ r. ⌜ r ≡ spoken (sleepyChildrenCall state (now (args .entry))) ⌝ }
 {
-    let state = world.neighbors;
     let said = state.sleepy_children();
     let answer = said.answer;
     let list = said.list;
-    world::asked(world, neighbor_answers::children_answer(answer, list))
+    neighbor_answers::children_answer(answer, list)
 }
 
 // Every end device child.
-pub fn end_device_children(world: World, args: &[u64]) -> Reply
-    ensures { λ r. ⌜ r ≡ endDeviceChildrenCall world (now (args .entry)) ⌝ }
+pub fn end_device_children(state: Neighbors, args: &[u64]) -> Answer
+    ensures { λ r. ⌜ r ≡ spoken (endDeviceChildrenCall state (now (args .entry))) ⌝ }
 {
-    let state = world.neighbors;
     let said = state.end_device_children();
     let answer = said.answer;
     let list = said.list;
-    world::asked(world, neighbor_answers::eui64s_answer(answer, list))
+    neighbor_answers::eui64s_answer(answer, list)
 }
 
 // The routers that are expected to relay a broadcast.
-pub fn expected_broadcast_relayers(world: World, args: &[u64]) -> Reply
-    ensures { λ r. ⌜ r ≡ expectedBroadcastRelayersCall world (now (args .entry)) ⌝ }
+pub fn expected_broadcast_relayers(state: Neighbors, args: &[u64]) -> Answer
+    ensures { λ r. ⌜ r ≡ spoken (expectedBroadcastRelayersCall state (now (args .entry))) ⌝ }
 {
-    let state = world.neighbors;
     let said = state.expected_broadcast_relayers();
     let answer = said.answer;
     let list = said.list;
-    world::asked(world, neighbor_answers::nwks_answer(answer, list))
+    neighbor_answers::nwks_answer(answer, list)
 }
 
 // The link statuses that are advertised.
-pub fn link_status_entries(world: World, args: &[u64]) -> Reply
-    ensures { λ r. ⌜ r ≡ linkStatusEntriesCall world (now (args .entry)) ⌝ }
+pub fn link_status_entries(state: Neighbors, args: &[u64]) -> Answer
+    ensures { λ r. ⌜ r ≡ spoken (linkStatusEntriesCall state (now (args .entry))) ⌝ }
 {
-    let state = world.neighbors;
     let said = state.link_status_entries();
     let answer = said.answer;
     let list = said.list;
-    world::asked(world, neighbor_answers::statuses_answer(answer, list))
+    neighbor_answers::statuses_answer(answer, list)
 }

@@ -11,26 +11,26 @@ use waiting_table::WaitingTable;
 ghost use mathlib.Core.Path.{_≡_};
 ghost use Rattle.neighbor_loads.specs.Loads.{loaded, unloaded, withNeighbors, withWaiting, neighborPut, putNeighbor, waitingPut, putWaiting, setNeighborCount, setNeighborKey, setWaitingCount, setWaitingKey};
 
-// What a line is answered, and the state after it.
-pub struct NeighborLoad {
+// What a call on the neighbours is answered, and the state after it.
+pub struct NeighborsReply {
     pub answer: Answer,
     pub state: Neighbors,
 }
 
 // The line is done.
-fn load(s: Neighbors) -> NeighborLoad
+fn load(s: Neighbors) -> NeighborsReply
     ensures { λ r. ⌜ r ≡ loaded s ⌝ }
 {
     let answer = numbers::done();
-    NeighborLoad { answer, state: s }
+    NeighborsReply { answer, state: s }
 }
 
 // The line is no call on this state, which stays.
-fn unload(s: Neighbors) -> NeighborLoad
+pub fn unload(s: Neighbors) -> NeighborsReply
     ensures { λ r. ⌜ r ≡ unloaded s ⌝ }
 {
     let answer = numbers::no_call();
-    NeighborLoad { answer, state: s }
+    NeighborsReply { answer, state: s }
 }
 
 // The state with this table.
@@ -43,7 +43,7 @@ fn with_neighbor_table(s: Neighbors, t: NeighborTable) -> Neighbors
 }
 
 // An entry under its key, if there is room in a table that is formed.
-fn load_neighbor(s: Neighbors, e: NeighborEntry) -> NeighborLoad
+fn load_neighbor(s: Neighbors, e: NeighborEntry) -> NeighborsReply
     ensures { λ r. ⌜ r ≡ neighborPut e s ⌝ }
 {
     let t = s.table;
@@ -60,7 +60,7 @@ fn load_neighbor(s: Neighbors, e: NeighborEntry) -> NeighborLoad
 }
 
 // An entry as its line names it.
-pub fn put_neighbor(s: Neighbors, args: &[u64]) -> NeighborLoad
+pub fn put_neighbor(s: Neighbors, args: &[u64]) -> NeighborsReply
     ensures { λ r. ⌜ r ≡ putNeighbor s (now (args .entry)) ⌝ }
 {
     let e = neighbor_values::neighbor_at(args, 0);
@@ -68,7 +68,7 @@ pub fn put_neighbor(s: Neighbors, args: &[u64]) -> NeighborLoad
 }
 
 // The count of a table that a line damages.
-pub fn set_neighbor_count(s: Neighbors, args: &[u64]) -> NeighborLoad
+pub fn set_neighbor_count(s: Neighbors, args: &[u64]) -> NeighborsReply
     ensures { λ r. ⌜ r ≡ setNeighborCount s (now (args .entry)) ⌝ }
 {
     let n = numbers::at(args, 0) as usize;
@@ -79,7 +79,7 @@ pub fn set_neighbor_count(s: Neighbors, args: &[u64]) -> NeighborLoad
 }
 
 // A key of a table that a line damages: the place and the key.
-pub fn set_neighbor_key(s: Neighbors, args: &[u64]) -> NeighborLoad
+pub fn set_neighbor_key(s: Neighbors, args: &[u64]) -> NeighborsReply
     ensures { λ r. ⌜ r ≡ setNeighborKey s (now (args .entry)) ⌝ }
 {
     let i = numbers::at(args, 0) as usize;
@@ -103,7 +103,7 @@ fn with_waiting_table(s: Neighbors, t: WaitingTable) -> Neighbors
 }
 
 // An entry under its key, if there is room in a table that is formed.
-fn load_waiting(s: Neighbors, e: WaitingEntry) -> NeighborLoad
+fn load_waiting(s: Neighbors, e: WaitingEntry) -> NeighborsReply
     ensures { λ r. ⌜ r ≡ waitingPut e s ⌝ }
 {
     let t = s.pending_lqas;
@@ -120,7 +120,7 @@ fn load_waiting(s: Neighbors, e: WaitingEntry) -> NeighborLoad
 }
 
 // An entry as its line names it.
-pub fn put_waiting(s: Neighbors, args: &[u64]) -> NeighborLoad
+pub fn put_waiting(s: Neighbors, args: &[u64]) -> NeighborsReply
     ensures { λ r. ⌜ r ≡ putWaiting s (now (args .entry)) ⌝ }
 {
     let e = neighbor_values::waiting_entry_at(args, 0);
@@ -128,7 +128,7 @@ pub fn put_waiting(s: Neighbors, args: &[u64]) -> NeighborLoad
 }
 
 // The count of a table that a line damages.
-pub fn set_waiting_count(s: Neighbors, args: &[u64]) -> NeighborLoad
+pub fn set_waiting_count(s: Neighbors, args: &[u64]) -> NeighborsReply
     ensures { λ r. ⌜ r ≡ setWaitingCount s (now (args .entry)) ⌝ }
 {
     let n = numbers::at(args, 0) as usize;
@@ -139,7 +139,7 @@ pub fn set_waiting_count(s: Neighbors, args: &[u64]) -> NeighborLoad
 }
 
 // A key of a table that a line damages: the place and the key.
-pub fn set_waiting_key(s: Neighbors, args: &[u64]) -> NeighborLoad
+pub fn set_waiting_key(s: Neighbors, args: &[u64]) -> NeighborsReply
     ensures { λ r. ⌜ r ≡ setWaitingKey s (now (args .entry)) ⌝ }
 {
     let i = numbers::at(args, 0) as usize;

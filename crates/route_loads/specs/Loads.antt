@@ -8,7 +8,7 @@ use lib.Dec.{leb, ltb}
 use lib.ListN.{set, take}
 use Rattle.types.specs.declared.Nwk.{Nwk}
 use Rattle.types.specs.declared.Refusal.the-variants.{ListTooLong}
-use Rattle.numbers.specs.Said.{ok, bad, refusedBy, spoken}
+use Rattle.numbers.specs.Said.{Said, ok, bad, refusedBy, spoken}
 use Rattle.numbers.specs.Read.{numberAt, byteAt, nwkAt}
 use Rattle.standard.specs.declared.RouteEntry.{RouteEntry}
 use Rattle.standard.specs.declared.DiscoveryEntry.{DiscoveryEntry}
@@ -28,17 +28,21 @@ use Rattle.routing.specs.declared.Routing.{Routing}
 use Rattle.routing.specs.Routes.{withRoutes}
 use Rattle.routing.specs.Records.{withRecords}
 use Rattle.route_args.specs.Read.{relaysAt, routeAt, discoveryAt}
-use Rattle.route_loads.specs.declared.RouteLoad.{RouteLoad}
+use Rattle.route_loads.specs.declared.RoutingReply.{RoutingReply}
+
+-- what is answered, and the state after it
+abbrev pub replied : Routing → Said → RoutingReply
+replied s said = record { answer = spoken said; state = s }
 
 -- done; no call; a list past its capacity
-abbrev pub loaded : Routing → RouteLoad
-loaded s = record { answer = spoken (ok []); state = s }
+abbrev pub loaded : Routing → RoutingReply
+loaded s = replied s (ok [])
 
-abbrev pub unloaded : Routing → RouteLoad
-unloaded s = record { answer = spoken bad; state = s }
+abbrev pub unloaded : Routing → RoutingReply
+unloaded s = replied s bad
 
-abbrev pub listTooLong : Routing → RouteLoad
-listTooLong s = record { answer = spoken (refusedBy ListTooLong); state = s }
+abbrev pub listTooLong : Routing → RoutingReply
+listTooLong s = replied s (refusedBy ListTooLong)
 
 -- the state with its discovery table replaced
 abbrev pub withDiscoveries : Routing → DiscoveryTable → Routing
@@ -52,7 +56,7 @@ withDiscoveries s t = record {
 }
 
 -- the last request id and the two trigger counters
-unfoldable pub putCounters : Routing → List ℕ → RouteLoad
+unfoldable pub putCounters : Routing → List ℕ → RoutingReply
 putCounters s args = loaded (record {
   «mtorr_route_errors» = byteAt args 1;
   «mtorr_delivery_failures» = byteAt args 2;
@@ -63,7 +67,7 @@ putCounters s args = loaded (record {
 })
 
 -- a route under its key, over the one that is there or in a free place
-unfoldable pub routePut : RouteEntry → Routing → RouteLoad
+unfoldable pub routePut : RouteEntry → Routing → RoutingReply
 routePut e s =
     cond (routes.wellFormed (s .«route_table»))
     (cond (leb (countWith routeKey (routeKey e) (routes.rowsOf (s .«route_table»))) 64)
@@ -71,11 +75,11 @@ routePut e s =
     (unloaded s))
     (unloaded s)
 
-unfoldable pub putRoute : Routing → List ℕ → RouteLoad
+unfoldable pub putRoute : Routing → List ℕ → RoutingReply
 putRoute s args = routePut (routeAt args 0) s
 
 -- a discovery under its key, over the one that is there or in a free place
-unfoldable pub discoveryPut : DiscoveryEntry → Routing → RouteLoad
+unfoldable pub discoveryPut : DiscoveryEntry → Routing → RoutingReply
 discoveryPut e s =
     cond (discoveries.wellFormed (s .«discovery_table»))
     (cond (leb (countWith discoveryKey (discoveryKey e) (discoveries.rowsOf (s .«discovery_table»))) 32)
@@ -83,7 +87,7 @@ discoveryPut e s =
     (unloaded s))
     (unloaded s)
 
-unfoldable pub putDiscovery : Routing → List ℕ → RouteLoad
+unfoldable pub putDiscovery : Routing → List ℕ → RoutingReply
 putDiscovery s args = discoveryPut (discoveryAt args 0) s
 
 -- a record's entry put under its destination, and its row at the same place of the store
@@ -93,7 +97,7 @@ recordTablePut destination l t = records.tableOf (put recordKey (record { destin
 abbrev pub recordRowPut : Nwk → RelayList → RecordTable → List ℕ → List ℕ
 recordRowPut destination l t store = onRows (rowPut (placeOf (take (t .count) (t .keys)) (destination .0)) (rowOf (relaysOf l))) store
 
-unfoldable pub recordPut : Nwk → RelayList → Routing → List ℕ → RouteLoad
+unfoldable pub recordPut : Nwk → RelayList → Routing → List ℕ → RoutingReply
 recordPut destination l s store =
     cond (records.wellFormed (s .«route_record_table»))
     (cond (agrees (s .«route_record_table») store)
@@ -111,35 +115,35 @@ recordPutStore destination l s store =
     store)
     store
 
-unfoldable pub putRecord : Routing → List ℕ → List ℕ → RouteLoad
+unfoldable pub putRecord : Routing → List ℕ → List ℕ → RoutingReply
 putRecord s args store = cond (ltb 32 (relaysAt args 1 .count)) (listTooLong s) (recordPut (nwkAt args 0) (relaysAt args 1) s store)
 
 unfoldable pub putRecordStore : Routing → List ℕ → List ℕ → List ℕ
 putRecordStore s args store = cond (ltb 32 (relaysAt args 1 .count)) store (recordPutStore (nwkAt args 0) (relaysAt args 1) s store)
 
 -- damage: a table's count, and the key at a place within the table
-unfoldable pub setRouteCount : Routing → List ℕ → RouteLoad
+unfoldable pub setRouteCount : Routing → List ℕ → RoutingReply
 setRouteCount s args = loaded (withRoutes s (record { keys = s .«route_table» .keys; entries = s .«route_table» .entries; count = numberAt args 0 }))
 
-unfoldable pub setRouteKey : Routing → List ℕ → RouteLoad
+unfoldable pub setRouteKey : Routing → List ℕ → RoutingReply
 setRouteKey s args =
     cond (leb 64 (numberAt args 0))
     (unloaded s)
     (loaded (withRoutes s (record { keys = set (s .«route_table» .keys) (numberAt args 0) (numberAt args 1); entries = s .«route_table» .entries; count = s .«route_table» .count })))
 
-unfoldable pub setDiscoveryCount : Routing → List ℕ → RouteLoad
+unfoldable pub setDiscoveryCount : Routing → List ℕ → RoutingReply
 setDiscoveryCount s args = loaded (withDiscoveries s (record { keys = s .«discovery_table» .keys; entries = s .«discovery_table» .entries; count = numberAt args 0 }))
 
-unfoldable pub setDiscoveryKey : Routing → List ℕ → RouteLoad
+unfoldable pub setDiscoveryKey : Routing → List ℕ → RoutingReply
 setDiscoveryKey s args =
     cond (leb 32 (numberAt args 0))
     (unloaded s)
     (loaded (withDiscoveries s (record { keys = set (s .«discovery_table» .keys) (numberAt args 0) (numberAt args 1); entries = s .«discovery_table» .entries; count = s .«discovery_table» .count })))
 
-unfoldable pub setRecordCount : Routing → List ℕ → RouteLoad
+unfoldable pub setRecordCount : Routing → List ℕ → RoutingReply
 setRecordCount s args = loaded (withRecords s (record { keys = s .«route_record_table» .keys; entries = s .«route_record_table» .entries; count = numberAt args 0 }))
 
-unfoldable pub setRecordKey : Routing → List ℕ → RouteLoad
+unfoldable pub setRecordKey : Routing → List ℕ → RoutingReply
 setRecordKey s args =
     cond (leb 64 (numberAt args 0))
     (unloaded s)

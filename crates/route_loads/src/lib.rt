@@ -22,34 +22,34 @@ ghost use Rattle.routing.specs.Routes.{withRoutes};
 ghost use Rattle.routing.specs.Records.{withRecords};
 ghost use Rattle.route_loads.specs.Loads.{loaded, unloaded, listTooLong, withDiscoveries, putCounters, routePut, putRoute, discoveryPut, putDiscovery, recordTablePut, recordRowPut, recordPut, recordPutStore, putRecord, putRecordStore, setRouteCount, setRouteKey, setDiscoveryCount, setDiscoveryKey, setRecordCount, setRecordKey};
 
-// What a line is answered, and the state after it.
-pub struct RouteLoad {
+// What a call on the routing state is answered, and the state after it.
+pub struct RoutingReply {
     pub answer: Answer,
     pub state: Routing,
 }
 
 // The line is done.
-fn load(s: Routing) -> RouteLoad
+fn load(s: Routing) -> RoutingReply
     ensures { λ r. ⌜ r ≡ loaded s ⌝ }
 {
     let answer = numbers::done();
-    RouteLoad { answer, state: s }
+    RoutingReply { answer, state: s }
 }
 
 // The line is no call on this state, which stays.
-fn unload(s: Routing) -> RouteLoad
+pub fn unload(s: Routing) -> RoutingReply
     ensures { λ r. ⌜ r ≡ unloaded s ⌝ }
 {
     let answer = numbers::no_call();
-    RouteLoad { answer, state: s }
+    RoutingReply { answer, state: s }
 }
 
 // The list is too long for a record; the state stays.
-fn refuse_list(s: Routing) -> RouteLoad
+fn refuse_list(s: Routing) -> RoutingReply
     ensures { λ r. ⌜ r ≡ listTooLong s ⌝ }
 {
     let answer = numbers::refused(Refusal::ListTooLong);
-    RouteLoad { answer, state: s }
+    RoutingReply { answer, state: s }
 }
 
 // The state with this route table.
@@ -80,7 +80,7 @@ fn with_record_table(s: Routing, t: RecordTable) -> Routing
 }
 
 // The last request id and the two trigger counters.
-pub fn put_counters(s: Routing, args: &[u64]) -> RouteLoad
+pub fn put_counters(s: Routing, args: &[u64]) -> RoutingReply
     ensures { λ r. ⌜ r ≡ putCounters s (now (args .entry)) ⌝ }
 {
     let id = numbers::byte(args, 0);
@@ -94,7 +94,7 @@ pub fn put_counters(s: Routing, args: &[u64]) -> RouteLoad
 }
 
 // An entry under its key, if there is room in a table that is well formed.
-fn load_route(s: Routing, e: RouteEntry) -> RouteLoad
+fn load_route(s: Routing, e: RouteEntry) -> RoutingReply
     ensures { λ r. ⌜ r ≡ routePut e s ⌝ }
 {
     let t = s.route_table;
@@ -111,7 +111,7 @@ fn load_route(s: Routing, e: RouteEntry) -> RouteLoad
 }
 
 // A route as its line names it.
-pub fn put_route(s: Routing, args: &[u64]) -> RouteLoad
+pub fn put_route(s: Routing, args: &[u64]) -> RoutingReply
     ensures { λ r. ⌜ r ≡ putRoute s (now (args .entry)) ⌝ }
 {
     let e = route_args::route(args, 0);
@@ -119,7 +119,7 @@ pub fn put_route(s: Routing, args: &[u64]) -> RouteLoad
 }
 
 // An entry under its key, if there is room in a table that is well formed.
-fn load_discovery(s: Routing, e: DiscoveryEntry) -> RouteLoad
+fn load_discovery(s: Routing, e: DiscoveryEntry) -> RoutingReply
     ensures { λ r. ⌜ r ≡ discoveryPut e s ⌝ }
 {
     let t = s.discovery_table;
@@ -136,7 +136,7 @@ fn load_discovery(s: Routing, e: DiscoveryEntry) -> RouteLoad
 }
 
 // A discovery as its line names it.
-pub fn put_discovery(s: Routing, args: &[u64]) -> RouteLoad
+pub fn put_discovery(s: Routing, args: &[u64]) -> RoutingReply
     ensures { λ r. ⌜ r ≡ putDiscovery s (now (args .entry)) ⌝ }
 {
     let e = route_args::discovery(args, 0);
@@ -161,7 +161,7 @@ fn write_record(t: RecordTable, store: &mut [u16], destination: Nwk, l: RelayLis
 }
 
 // A record under its destination, if there is room in a table that is well formed and that the store agrees with.
-fn load_record(s: Routing, store: &mut [u16], destination: Nwk, l: RelayList) -> RouteLoad
+fn load_record(s: Routing, store: &mut [u16], destination: Nwk, l: RelayList) -> RoutingReply
     requires { ⌜ l .count ≤ 32 ⌝ }
     ensures { λ r. ⌜ r ≡ recordPut destination l s (now (store .entry)) ⌝ }
     ensures { λ _. ⌜ now (store .exit) ≡ recordPutStore destination l s (now (store .entry)) ⌝ }
@@ -182,7 +182,7 @@ fn load_record(s: Routing, store: &mut [u16], destination: Nwk, l: RelayList) ->
 }
 
 // A record as its line names it: the destination and the relays.
-pub fn put_record(s: Routing, args: &[u64], store: &mut [u16]) -> RouteLoad
+pub fn put_record(s: Routing, args: &[u64], store: &mut [u16]) -> RoutingReply
     ensures { λ r. ⌜ r ≡ putRecord s (now (args .entry)) (now (store .entry)) ⌝ }
     ensures { λ _. ⌜ now (store .exit) ≡ putRecordStore s (now (args .entry)) (now (store .entry)) ⌝ }
 {
@@ -195,7 +195,7 @@ pub fn put_record(s: Routing, args: &[u64], store: &mut [u16]) -> RouteLoad
 }
 
 // The count of a table that a line damages.
-pub fn set_route_count(s: Routing, args: &[u64]) -> RouteLoad
+pub fn set_route_count(s: Routing, args: &[u64]) -> RoutingReply
     ensures { λ r. ⌜ r ≡ setRouteCount s (now (args .entry)) ⌝ }
 {
     let n = numbers::at(args, 0) as usize;
@@ -206,7 +206,7 @@ pub fn set_route_count(s: Routing, args: &[u64]) -> RouteLoad
 }
 
 // A key of a table that a line damages: the place and the key.
-pub fn set_route_key(s: Routing, args: &[u64]) -> RouteLoad
+pub fn set_route_key(s: Routing, args: &[u64]) -> RoutingReply
     ensures { λ r. ⌜ r ≡ setRouteKey s (now (args .entry)) ⌝ }
 {
     let i = numbers::at(args, 0) as usize;
@@ -221,7 +221,7 @@ pub fn set_route_key(s: Routing, args: &[u64]) -> RouteLoad
 }
 
 // The count of a table that a line damages.
-pub fn set_discovery_count(s: Routing, args: &[u64]) -> RouteLoad
+pub fn set_discovery_count(s: Routing, args: &[u64]) -> RoutingReply
     ensures { λ r. ⌜ r ≡ setDiscoveryCount s (now (args .entry)) ⌝ }
 {
     let n = numbers::at(args, 0) as usize;
@@ -232,7 +232,7 @@ pub fn set_discovery_count(s: Routing, args: &[u64]) -> RouteLoad
 }
 
 // A key of a table that a line damages: the place and the key.
-pub fn set_discovery_key(s: Routing, args: &[u64]) -> RouteLoad
+pub fn set_discovery_key(s: Routing, args: &[u64]) -> RoutingReply
     ensures { λ r. ⌜ r ≡ setDiscoveryKey s (now (args .entry)) ⌝ }
 {
     let i = numbers::at(args, 0) as usize;
@@ -247,7 +247,7 @@ pub fn set_discovery_key(s: Routing, args: &[u64]) -> RouteLoad
 }
 
 // The count of a table that a line damages.
-pub fn set_record_count(s: Routing, args: &[u64]) -> RouteLoad
+pub fn set_record_count(s: Routing, args: &[u64]) -> RoutingReply
     ensures { λ r. ⌜ r ≡ setRecordCount s (now (args .entry)) ⌝ }
 {
     let n = numbers::at(args, 0) as usize;
@@ -258,7 +258,7 @@ pub fn set_record_count(s: Routing, args: &[u64]) -> RouteLoad
 }
 
 // A key of a table that a line damages: the place and the key.
-pub fn set_record_key(s: Routing, args: &[u64]) -> RouteLoad
+pub fn set_record_key(s: Routing, args: &[u64]) -> RoutingReply
     ensures { λ r. ⌜ r ≡ setRecordKey s (now (args .entry)) ⌝ }
 {
     let i = numbers::at(args, 0) as usize;

@@ -4,61 +4,82 @@ use Prim.Native.Nat.{ℕ}
 use mathlib.Core.Bool.{cond}
 use mathlib.Core.List.{List}
 use lib.Dec.{eqb}
-use Rattle.numbers.specs.Said.{bad}
-use Rattle.world.specs.declared.World.{World}
-use Rattle.world.specs.declared.Reply.{Reply}
-use Rattle.world.specs.Worlds.{asked}
+use Rattle.numbers.specs.Said.{Said, bad}
+use Rattle.routing.specs.declared.Routing.{Routing}
+use Rattle.route_loads.specs.declared.RoutingReply.{RoutingReply}
+use Rattle.route_loads.specs.Loads.{unloaded, putCounters, putRoute, putDiscovery, setRouteCount, setDiscoveryCount, setRecordCount, setRouteKey, setDiscoveryKey, setRecordKey, putRecord, putRecordStore}
 use Rattle.routing_groups.specs.Asked.{checkCall, routeStatusCall, routeCountCall, routeAtCall, nextHopCall, discoveryDeadlineCall, discoveryCountCall, discoveryAtCall, recordCountCall}
 use Rattle.routing_groups.specs.Changed.{noteRouteErrorCall, noteDeliveryFailureCall, resetMtorrTriggersCall, markDiscoveryFailedCall, recordUsageCall, decayActivityCall, invalidateViaCall, removeRouteCall, restoreRouteCall, noteSourceRoutedFrameCall, noteRelayedDiscoveryCall, beginDiscoveryCall, beginManyToOneAdvertisementCall, acceptRouteRequestCall, acceptRouteReplyCall}
-use Rattle.table_groups.specs.Loaded.{putRecordCall, putRecordStored}
 use Rattle.routing_groups.specs.Recorded.{storeRouteRecordCall, storeRouteRecordStore, removeRouteRecordCall, removeRouteRecordStore, routeToCall, routeToDefaultCall, recordAtCall}
 
 -- The calls that ask the routing state.
-unfoldable pub askRouting : World → ℕ → List ℕ → Reply
-askRouting w n args =
-    cond (eqb n 2) (checkCall w)
-    (cond (eqb n 12) (routeStatusCall w args)
-    (cond (eqb n 13) (routeCountCall w)
-    (cond (eqb n 14) (routeAtCall w args)
-    (cond (eqb n 15) (nextHopCall w args)
-    (cond (eqb n 26) (discoveryDeadlineCall w args)
-    (cond (eqb n 71) (discoveryCountCall w)
-    (cond (eqb n 72) (discoveryAtCall w args)
-    (cond (eqb n 73) (recordCountCall w)
-    (asked w bad)))))))))
+unfoldable pub askRouting : Routing → ℕ → List ℕ → Said
+askRouting s n args =
+    cond (eqb n 2) (checkCall s)
+    (cond (eqb n 12) (routeStatusCall s args)
+    (cond (eqb n 13) (routeCountCall s)
+    (cond (eqb n 14) (routeAtCall s args)
+    (cond (eqb n 15) (nextHopCall s args)
+    (cond (eqb n 26) (discoveryDeadlineCall s args)
+    (cond (eqb n 71) (discoveryCountCall s)
+    (cond (eqb n 72) (discoveryAtCall s args)
+    (cond (eqb n 73) (recordCountCall s)
+    bad))))))))
+
+-- The calls that ask the route records, with the store that they are kept in.
+unfoldable pub askRecords : Routing → ℕ → List ℕ → List ℕ → Said
+askRecords s n args store =
+    cond (eqb n 27) (routeToCall s args store)
+    (cond (eqb n 28) (routeToDefaultCall s args store)
+    (cond (eqb n 74) (recordAtCall s args store)
+    bad))
 
 -- The calls that change the trigger counters and the routes.
-unfoldable pub changeRoutes : World → ℕ → List ℕ → Reply
-changeRoutes w n args =
-    cond (eqb n 9) (noteRouteErrorCall w args)
-    (cond (eqb n 10) (noteDeliveryFailureCall w args)
-    (cond (eqb n 11) (resetMtorrTriggersCall w)
-    (cond (eqb n 16) (markDiscoveryFailedCall w args)
-    (cond (eqb n 17) (recordUsageCall w args)
-    (cond (eqb n 18) (decayActivityCall w)
-    (cond (eqb n 19) (invalidateViaCall w args)
-    (cond (eqb n 20) (removeRouteCall w args)
-    (asked w bad))))))))
+unfoldable pub changeRoutes : Routing → ℕ → List ℕ → RoutingReply
+changeRoutes s n args =
+    cond (eqb n 9) (noteRouteErrorCall s args)
+    (cond (eqb n 10) (noteDeliveryFailureCall s args)
+    (cond (eqb n 11) (resetMtorrTriggersCall s)
+    (cond (eqb n 16) (markDiscoveryFailedCall s args)
+    (cond (eqb n 17) (recordUsageCall s args)
+    (cond (eqb n 18) (decayActivityCall s)
+    (cond (eqb n 19) (invalidateViaCall s args)
+    (cond (eqb n 20) (removeRouteCall s args)
+    (unloaded s))))))))
 
 -- The calls that make routes and searches.
-unfoldable pub changeSearches : World → ℕ → List ℕ → Reply
-changeSearches w n args =
-    cond (eqb n 21) (restoreRouteCall w args)
-    (cond (eqb n 24) (noteSourceRoutedFrameCall w args)
-    (cond (eqb n 25) (noteRelayedDiscoveryCall w args)
-    (cond (eqb n 29) (beginDiscoveryCall w args)
-    (cond (eqb n 30) (beginManyToOneAdvertisementCall w args)
-    (cond (eqb n 31) (acceptRouteRequestCall w args)
-    (cond (eqb n 32) (acceptRouteReplyCall w args)
-    (asked w bad)))))))
+unfoldable pub changeSearches : Routing → ℕ → List ℕ → RoutingReply
+changeSearches s n args =
+    cond (eqb n 21) (restoreRouteCall s args)
+    (cond (eqb n 24) (noteSourceRoutedFrameCall s args)
+    (cond (eqb n 25) (noteRelayedDiscoveryCall s args)
+    (cond (eqb n 29) (beginDiscoveryCall s args)
+    (cond (eqb n 30) (beginManyToOneAdvertisementCall s args)
+    (cond (eqb n 31) (acceptRouteRequestCall s args)
+    (cond (eqb n 32) (acceptRouteReplyCall s args)
+    (unloaded s)))))))
 
--- The calls that read the store.
-unfoldable pub storeAsked : World → ℕ → List ℕ → List ℕ → Reply
-storeAsked w n args store = cond (eqb n 27) (routeToCall w args store) (cond (eqb n 28) (routeToDefaultCall w args store) (cond (eqb n 74) (recordAtCall w args store) (asked w bad)))
+-- The lines that set the routing state up, and those that damage it.
+unfoldable pub loadRoutes : Routing → ℕ → List ℕ → RoutingReply
+loadRoutes s n args =
+    cond (eqb n 3) (putCounters s args)
+    (cond (eqb n 4) (putRoute s args)
+    (cond (eqb n 5) (putDiscovery s args)
+    (cond (eqb n 75) (setRouteCount s args)
+    (cond (eqb n 76) (setDiscoveryCount s args)
+    (cond (eqb n 77) (setRecordCount s args)
+    (cond (eqb n 80) (setRouteKey s args)
+    (cond (eqb n 81) (setDiscoveryKey s args)
+    (cond (eqb n 82) (setRecordKey s args)
+    (unloaded s)))))))))
 
--- The calls that are lent the store, and the store after them.
-unfoldable pub storeCall : World → ℕ → List ℕ → List ℕ → Reply
-storeCall w n args store = cond (eqb n 6) (putRecordCall w args store) (cond (eqb n 22) (storeRouteRecordCall w args store) (cond (eqb n 23) (removeRouteRecordCall w args store) (storeAsked w n args store)))
+-- The calls that change the route records, and the store after them.
+unfoldable pub changeRecords : Routing → ℕ → List ℕ → List ℕ → RoutingReply
+changeRecords s n args store =
+    cond (eqb n 6) (putRecord s args store)
+    (cond (eqb n 22) (storeRouteRecordCall s args store)
+    (cond (eqb n 23) (removeRouteRecordCall s args store)
+    (unloaded s)))
 
-unfoldable pub storeAfter : World → ℕ → List ℕ → List ℕ → List ℕ
-storeAfter w n args store = cond (eqb n 6) (putRecordStored w args store) (cond (eqb n 22) (storeRouteRecordStore w args store) (cond (eqb n 23) (removeRouteRecordStore w args store) store))
+unfoldable pub storeAfter : Routing → ℕ → List ℕ → List ℕ → List ℕ
+storeAfter s n args store = cond (eqb n 6) (putRecordStore s args store) (cond (eqb n 22) (storeRouteRecordStore s args store) (cond (eqb n 23) (removeRouteRecordStore s args store) store))

@@ -14,12 +14,9 @@ clear-end-device-initiator-for-relay-requires c κs = search needs
 clear-answer-requires : tie.Need-clear-answer-requires
 clear-answer-requires c κs = search needs
 
-asked-requires : tie.Need-asked-requires
-asked-requires c κs = search needs
-
 returns : tie.Need-returns
 unfolding clearCall
-returns c = rw (c .asked .ensures, c .before .clear-answer .ensures, c .before .before .clear-end-device-initiator-for-relay .ensures, c .before .before .before .header .ensures)
+returns c = rw (c .clear-answer .ensures, c .before .clear-end-device-initiator-for-relay .ensures, c .before .before .header .ensures)
 
 pub clear-end-device-initiator-for-relay-spec : {M : Type 1} → statement M
 clear-end-device-initiator-for-relay-spec =
@@ -28,5 +25,4 @@ clear-end-device-initiator-for-relay-spec =
     header-requires
     clear-end-device-initiator-for-relay-requires
     clear-answer-requires
-    asked-requires
     returns)

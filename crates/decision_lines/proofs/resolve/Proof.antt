@@ -17,7 +17,7 @@ after-mode-requires : tie.Need-after-mode-requires
 after-mode-requires c κs = search needs
 
 header-requires : tie.Need-header-requires
-header-requires c κs = omega (arith, c .after-mode .ensures, mode-near (now (c .before .before .before .before .before .before .before .args .args)) 3)
+header-requires c κs = omega (arith, c .after-mode .ensures, mode-near (now (c .before .before .before .before .before .args .args)) 3)
 
 resolve-requires : tie.Need-resolve-requires
 resolve-requires c κs = search needs
@@ -25,12 +25,9 @@ resolve-requires c κs = search needs
 resolve-answer-requires : tie.Need-resolve-answer-requires
 resolve-answer-requires c κs = search needs
 
-asked-requires : tie.Need-asked-requires
-asked-requires c κs = search needs
-
 returns : tie.Need-returns
 unfolding resolveCall
-returns c = rw (c .asked .ensures, c .before .resolve-answer .ensures, c .before .before .resolve .ensures, c .before .before .before .header .ensures, c .before .before .before .before .after-mode .ensures, c .before .before .before .before .before .mode .ensures, c .before .before .before .before .before .before .policy .ensures)
+returns c = rw (c .resolve-answer .ensures, c .before .resolve .ensures, c .before .before .header .ensures, c .before .before .before .after-mode .ensures, c .before .before .before .before .mode .ensures, c .before .before .before .before .before .policy .ensures)
 
 pub resolve-spec : {M : Type 1} → statement M
 resolve-spec =
@@ -42,5 +39,4 @@ resolve-spec =
     header-requires
     resolve-requires
     resolve-answer-requires
-    asked-requires
     returns)

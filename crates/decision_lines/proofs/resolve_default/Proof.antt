@@ -14,7 +14,7 @@ after-mode-requires : tie.Need-after-mode-requires
 after-mode-requires c κs = search needs
 
 header-requires : tie.Need-header-requires
-header-requires c κs = omega (arith, c .after-mode .ensures, mode-near (now (c .before .before .before .before .before .before .args .args)) 0)
+header-requires c κs = omega (arith, c .after-mode .ensures, mode-near (now (c .before .before .before .before .args .args)) 0)
 
 resolve-default-requires : tie.Need-resolve-default-requires
 resolve-default-requires c κs = search needs
@@ -22,12 +22,9 @@ resolve-default-requires c κs = search needs
 resolve-answer-requires : tie.Need-resolve-answer-requires
 resolve-answer-requires c κs = search needs
 
-asked-requires : tie.Need-asked-requires
-asked-requires c κs = search needs
-
 returns : tie.Need-returns
 unfolding resolveDefaultCall
-returns c = rw (c .asked .ensures, c .before .resolve-answer .ensures, c .before .before .resolve-default .ensures, c .before .before .before .header .ensures, c .before .before .before .before .after-mode .ensures, c .before .before .before .before .before .mode .ensures)
+returns c = rw (c .resolve-answer .ensures, c .before .resolve-default .ensures, c .before .before .header .ensures, c .before .before .before .after-mode .ensures, c .before .before .before .before .mode .ensures)
 
 pub resolve-default-spec : {M : Type 1} → statement M
 resolve-default-spec =
@@ -38,5 +35,4 @@ resolve-default-spec =
     header-requires
     resolve-default-requires
     resolve-answer-requires
-    asked-requires
     returns)

@@ -1,5 +1,4 @@
 -- The number is compared with each of the group's in turn.
-use mathlib.Core.Path.{_∙_}
 use borrow.Author.Needs.{needs}
 use borrow.Author.Tests.{eq-eqb, ne-eqb}
 use Rattle.neighbor_groups.specs.Groups.{askChildren}
@@ -51,12 +50,9 @@ returns-6 c = rw (ne-eqb _ _ (c .before .before .before .before .before .before 
 no-call-requires : tie.Need-no-call-requires
 no-call-requires c κs = search needs
 
-asked-requires : tie.Need-asked-requires
-asked-requires c κs = search needs
-
 returns-7 : tie.Need-returns-7
 unfolding askChildren
-returns-7 c = rw (ne-eqb _ _ (c .before .before .before .before .before .before .before .if1 .left), ne-eqb _ _ (c .before .before .before .before .before .before .if2 .left), ne-eqb _ _ (c .before .before .before .before .before .if3 .left), ne-eqb _ _ (c .before .before .before .before .if4 .left), ne-eqb _ _ (c .before .before .before .if5 .left), ne-eqb _ _ (c .before .before .if6 .left)) (c .asked .ensures ∙ rw (c .before .no-call .ensures))
+returns-7 c = rw (ne-eqb _ _ (c .before .before .before .before .before .before .if1 .left), ne-eqb _ _ (c .before .before .before .before .before .if2 .left), ne-eqb _ _ (c .before .before .before .before .if3 .left), ne-eqb _ _ (c .before .before .before .if4 .left), ne-eqb _ _ (c .before .before .if5 .left), ne-eqb _ _ (c .before .if6 .left)) (c .no-call .ensures)
 
 pub ask-children-spec : {M : Type 1} → statement M
-ask-children-spec = tie.close (tie.spec contains-requires returns device-capability-requires returns-2 end-device-child-count-requires returns-3 is-unconfirmed-end-device-child-requires returns-4 next-child-timeout-requires returns-5 any-live-router-link-requires returns-6 no-call-requires asked-requires returns-7)
+ask-children-spec = tie.close (tie.spec contains-requires returns device-capability-requires returns-2 end-device-child-count-requires returns-3 is-unconfirmed-end-device-child-requires returns-4 next-child-timeout-requires returns-5 any-live-router-link-requires returns-6 no-call-requires returns-7)

@@ -1,5 +1,4 @@
 -- The number is compared with each of the group's in turn.
-use mathlib.Core.Path.{_∙_}
 use borrow.Author.Needs.{needs}
 use borrow.Author.Tests.{eq-eqb, ne-eqb}
 use Rattle.routing_groups.specs.Groups.{askRouting}
@@ -72,12 +71,9 @@ returns-9 c = rw (ne-eqb _ _ (c .before .before .before .before .before .before 
 no-call-requires : tie.Need-no-call-requires
 no-call-requires c κs = search needs
 
-asked-requires : tie.Need-asked-requires
-asked-requires c κs = search needs
-
 returns-10 : tie.Need-returns-10
 unfolding askRouting
-returns-10 c = rw (ne-eqb _ _ (c .before .before .before .before .before .before .before .before .before .before .if1 .left), ne-eqb _ _ (c .before .before .before .before .before .before .before .before .before .if2 .left), ne-eqb _ _ (c .before .before .before .before .before .before .before .before .if3 .left), ne-eqb _ _ (c .before .before .before .before .before .before .before .if4 .left), ne-eqb _ _ (c .before .before .before .before .before .before .if5 .left), ne-eqb _ _ (c .before .before .before .before .before .if6 .left), ne-eqb _ _ (c .before .before .before .before .if7 .left), ne-eqb _ _ (c .before .before .before .if8 .left), ne-eqb _ _ (c .before .before .if9 .left)) (c .asked .ensures ∙ rw (c .before .no-call .ensures))
+returns-10 c = rw (ne-eqb _ _ (c .before .before .before .before .before .before .before .before .before .if1 .left), ne-eqb _ _ (c .before .before .before .before .before .before .before .before .if2 .left), ne-eqb _ _ (c .before .before .before .before .before .before .before .if3 .left), ne-eqb _ _ (c .before .before .before .before .before .before .if4 .left), ne-eqb _ _ (c .before .before .before .before .before .if5 .left), ne-eqb _ _ (c .before .before .before .before .if6 .left), ne-eqb _ _ (c .before .before .before .if7 .left), ne-eqb _ _ (c .before .before .if8 .left), ne-eqb _ _ (c .before .if9 .left)) (c .no-call .ensures)
 
 pub ask-routing-spec : {M : Type 1} → statement M
-ask-routing-spec = tie.close (tie.spec check-requires returns route-status-requires returns-2 route-count-requires returns-3 route-at-requires returns-4 next-hop-requires returns-5 discovery-deadline-requires returns-6 discovery-count-requires returns-7 discovery-at-requires returns-8 record-count-requires returns-9 no-call-requires asked-requires returns-10)
+ask-routing-spec = tie.close (tie.spec check-requires returns route-status-requires returns-2 route-count-requires returns-3 route-at-requires returns-4 next-hop-requires returns-5 discovery-deadline-requires returns-6 discovery-count-requires returns-7 discovery-at-requires returns-8 record-count-requires returns-9 no-call-requires returns-10)

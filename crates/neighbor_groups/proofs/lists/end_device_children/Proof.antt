@@ -10,13 +10,10 @@ end-device-children-requires c κs = search needs
 eui64s-answer-requires : tie.Need-eui64s-answer-requires
 eui64s-answer-requires c κs = search needs
 
-asked-requires : tie.Need-asked-requires
-asked-requires c κs = search needs
-
 returns : tie.Need-returns
 unfolding endDeviceChildrenCall
-returns c = rw (c .asked .ensures, c .before .eui64s-answer .ensures, c .before .before .before .end-device-children .ensures)
+returns c = rw (c .eui64s-answer .ensures, c .before .before .end-device-children .ensures)
 
 pub end-device-children-spec : {M : Type 1} → statement M
 end-device-children-spec =
-    tie.close (tie.spec end-device-children-requires eui64s-answer-requires asked-requires returns)
+    tie.close (tie.spec end-device-children-requires eui64s-answer-requires returns)

@@ -10,14 +10,11 @@ expected-broadcast-relayers-requires c κs = search needs
 nwks-answer-requires : tie.Need-nwks-answer-requires
 nwks-answer-requires c κs = search needs
 
-asked-requires : tie.Need-asked-requires
-asked-requires c κs = search needs
-
 returns : tie.Need-returns
 unfolding expectedBroadcastRelayersCall
-returns c = rw (c .asked .ensures, c .before .nwks-answer .ensures, c .before .before .before .expected-broadcast-relayers .ensures)
+returns c = rw (c .nwks-answer .ensures, c .before .before .expected-broadcast-relayers .ensures)
 
 pub expected-broadcast-relayers-spec : {M : Type 1} → statement M
 expected-broadcast-relayers-spec =
     tie.close
-    (tie.spec expected-broadcast-relayers-requires nwks-answer-requires asked-requires returns)
+    (tie.spec expected-broadcast-relayers-requires nwks-answer-requires returns)

@@ -13,14 +13,11 @@ entry-of-requires c κs = search needs
 cost-answer-requires : tie.Need-cost-answer-requires
 cost-answer-requires c κs = search needs
 
-asked-requires : tie.Need-asked-requires
-asked-requires c κs = search needs
-
 returns : tie.Need-returns
 unfolding incomingLinkCostCall
-returns c = rw (c .asked .ensures, c .before .cost-answer .ensures, c .before .before .entry-of .ensures, c .before .before .before .eui64 .ensures)
+returns c = rw (c .cost-answer .ensures, c .before .entry-of .ensures, c .before .before .eui64 .ensures)
 
 pub incoming-link-cost-spec : {M : Type 1} → statement M
 incoming-link-cost-spec =
     tie.close
-    (tie.spec eui64-requires entry-of-requires cost-answer-requires asked-requires returns)
+    (tie.spec eui64-requires entry-of-requires cost-answer-requires returns)

@@ -13,14 +13,11 @@ entry-of-requires c κs = search needs
 is-child-answer-requires : tie.Need-is-child-answer-requires
 is-child-answer-requires c κs = search needs
 
-asked-requires : tie.Need-asked-requires
-asked-requires c κs = search needs
-
 returns : tie.Need-returns
 unfolding isChildCall
-returns c = rw (c .asked .ensures, c .before .is-child-answer .ensures, c .before .before .entry-of .ensures, c .before .before .before .eui64 .ensures)
+returns c = rw (c .is-child-answer .ensures, c .before .entry-of .ensures, c .before .before .eui64 .ensures)
 
 pub is-child-spec : {M : Type 1} → statement M
 is-child-spec =
     tie.close
-    (tie.spec eui64-requires entry-of-requires is-child-answer-requires asked-requires returns)
+    (tie.spec eui64-requires entry-of-requires is-child-answer-requires returns)

@@ -10,14 +10,11 @@ link-status-entries-requires c κs = search needs
 statuses-answer-requires : tie.Need-statuses-answer-requires
 statuses-answer-requires c κs = search needs
 
-asked-requires : tie.Need-asked-requires
-asked-requires c κs = search needs
-
 returns : tie.Need-returns
 unfolding linkStatusEntriesCall
-returns c = rw (c .asked .ensures, c .before .statuses-answer .ensures, c .before .before .before .link-status-entries .ensures)
+returns c = rw (c .statuses-answer .ensures, c .before .before .link-status-entries .ensures)
 
 pub link-status-entries-spec : {M : Type 1} → statement M
 link-status-entries-spec =
     tie.close
-    (tie.spec link-status-entries-requires statuses-answer-requires asked-requires returns)
+    (tie.spec link-status-entries-requires statuses-answer-requires returns)

@@ -13,14 +13,11 @@ entry-of-requires c κs = search needs
 quality-answer-requires : tie.Need-quality-answer-requires
 quality-answer-requires c κs = search needs
 
-asked-requires : tie.Need-asked-requires
-asked-requires c κs = search needs
-
 returns : tie.Need-returns
 unfolding lqaCall
-returns c = rw (c .asked .ensures, c .before .quality-answer .ensures, c .before .before .entry-of .ensures, c .before .before .before .eui64 .ensures)
+returns c = rw (c .quality-answer .ensures, c .before .entry-of .ensures, c .before .before .eui64 .ensures)
 
 pub lqa-spec : {M : Type 1} → statement M
 lqa-spec =
     tie.close
-    (tie.spec eui64-requires entry-of-requires quality-answer-requires asked-requires returns)
+    (tie.spec eui64-requires entry-of-requires quality-answer-requires returns)

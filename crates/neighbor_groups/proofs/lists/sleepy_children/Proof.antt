@@ -10,13 +10,10 @@ sleepy-children-requires c κs = search needs
 children-answer-requires : tie.Need-children-answer-requires
 children-answer-requires c κs = search needs
 
-asked-requires : tie.Need-asked-requires
-asked-requires c κs = search needs
-
 returns : tie.Need-returns
 unfolding sleepyChildrenCall
-returns c = rw (c .asked .ensures, c .before .children-answer .ensures, c .before .before .before .sleepy-children .ensures)
+returns c = rw (c .children-answer .ensures, c .before .before .sleepy-children .ensures)
 
 pub sleepy-children-spec : {M : Type 1} → statement M
 sleepy-children-spec =
-    tie.close (tie.spec sleepy-children-requires children-answer-requires asked-requires returns)
+    tie.close (tie.spec sleepy-children-requires children-answer-requires returns)

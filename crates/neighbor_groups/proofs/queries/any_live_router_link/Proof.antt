@@ -10,13 +10,10 @@ any-live-router-link-requires c κs = search needs
 truth-answer-requires : tie.Need-truth-answer-requires
 truth-answer-requires c κs = search needs
 
-asked-requires : tie.Need-asked-requires
-asked-requires c κs = search needs
-
 returns : tie.Need-returns
 unfolding anyLiveRouterLinkCall
-returns c = rw (c .asked .ensures, c .before .truth-answer .ensures, c .before .before .any-live-router-link .ensures)
+returns c = rw (c .truth-answer .ensures, c .before .any-live-router-link .ensures)
 
 pub any-live-router-link-spec : {M : Type 1} → statement M
 any-live-router-link-spec =
-    tie.close (tie.spec any-live-router-link-requires truth-answer-requires asked-requires returns)
+    tie.close (tie.spec any-live-router-link-requires truth-answer-requires returns)

@@ -13,14 +13,11 @@ contains-requires c κs = search needs
 truth-answer-requires : tie.Need-truth-answer-requires
 truth-answer-requires c κs = search needs
 
-asked-requires : tie.Need-asked-requires
-asked-requires c κs = search needs
-
 returns : tie.Need-returns
 unfolding containsCall
-returns c = rw (c .asked .ensures, c .before .truth-answer .ensures, c .before .before .contains .ensures, c .before .before .before .eui64 .ensures)
+returns c = rw (c .truth-answer .ensures, c .before .contains .ensures, c .before .before .eui64 .ensures)
 
 pub contains-spec : {M : Type 1} → statement M
 contains-spec =
     tie.close
-    (tie.spec eui64-requires contains-requires truth-answer-requires asked-requires returns)
+    (tie.spec eui64-requires contains-requires truth-answer-requires returns)

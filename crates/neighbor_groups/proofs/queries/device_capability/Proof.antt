@@ -13,12 +13,9 @@ device-capability-requires c κs = search needs
 capability-answer-requires : tie.Need-capability-answer-requires
 capability-answer-requires c κs = search needs
 
-asked-requires : tie.Need-asked-requires
-asked-requires c κs = search needs
-
 returns : tie.Need-returns
 unfolding deviceCapabilityCall
-returns c = rw (c .asked .ensures, c .before .capability-answer .ensures, c .before .before .device-capability .ensures, c .before .before .before .eui64 .ensures)
+returns c = rw (c .capability-answer .ensures, c .before .device-capability .ensures, c .before .before .eui64 .ensures)
 
 pub device-capability-spec : {M : Type 1} → statement M
 device-capability-spec =
@@ -27,5 +24,4 @@ device-capability-spec =
     eui64-requires
     device-capability-requires
     capability-answer-requires
-    asked-requires
     returns)

@@ -10,14 +10,11 @@ end-device-child-count-requires c κs = search needs
 count-answer-requires : tie.Need-count-answer-requires
 count-answer-requires c κs = search needs
 
-asked-requires : tie.Need-asked-requires
-asked-requires c κs = search needs
-
 returns : tie.Need-returns
 unfolding endDeviceChildCountCall
-returns c = rw (c .asked .ensures, c .before .count-answer .ensures, c .before .before .end-device-child-count .ensures)
+returns c = rw (c .count-answer .ensures, c .before .end-device-child-count .ensures)
 
 pub end-device-child-count-spec : {M : Type 1} → statement M
 end-device-child-count-spec =
     tie.close
-    (tie.spec end-device-child-count-requires count-answer-requires asked-requires returns)
+    (tie.spec end-device-child-count-requires count-answer-requires returns)

@@ -13,12 +13,9 @@ end-device-child-eui64-requires c κs = search needs
 eui64-answer-requires : tie.Need-eui64-answer-requires
 eui64-answer-requires c κs = search needs
 
-asked-requires : tie.Need-asked-requires
-asked-requires c κs = search needs
-
 returns : tie.Need-returns
 unfolding endDeviceChildEui64Call
-returns c = rw (c .asked .ensures, c .before .eui64-answer .ensures, c .before .before .end-device-child-eui64 .ensures, c .before .before .before .nwk .ensures)
+returns c = rw (c .eui64-answer .ensures, c .before .end-device-child-eui64 .ensures, c .before .before .nwk .ensures)
 
 pub end-device-child-eui64-spec : {M : Type 1} → statement M
 end-device-child-eui64-spec =
@@ -27,5 +24,4 @@ end-device-child-eui64-spec =
     nwk-requires
     end-device-child-eui64-requires
     eui64-answer-requires
-    asked-requires
     returns)

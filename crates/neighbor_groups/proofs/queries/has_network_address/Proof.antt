@@ -13,12 +13,9 @@ has-network-address-requires c κs = search needs
 truth-answer-requires : tie.Need-truth-answer-requires
 truth-answer-requires c κs = search needs
 
-asked-requires : tie.Need-asked-requires
-asked-requires c κs = search needs
-
 returns : tie.Need-returns
 unfolding hasNetworkAddressCall
-returns c = rw (c .asked .ensures, c .before .truth-answer .ensures, c .before .before .has-network-address .ensures, c .before .before .before .nwk .ensures)
+returns c = rw (c .truth-answer .ensures, c .before .has-network-address .ensures, c .before .before .nwk .ensures)
 
 pub has-network-address-spec : {M : Type 1} → statement M
 has-network-address-spec =
@@ -27,5 +24,4 @@ has-network-address-spec =
     nwk-requires
     has-network-address-requires
     truth-answer-requires
-    asked-requires
     returns)

@@ -13,12 +13,9 @@ is-unconfirmed-end-device-child-requires c κs = search needs
 truth-answer-requires : tie.Need-truth-answer-requires
 truth-answer-requires c κs = search needs
 
-asked-requires : tie.Need-asked-requires
-asked-requires c κs = search needs
-
 returns : tie.Need-returns
 unfolding isUnconfirmedEndDeviceChildCall
-returns c = rw (c .asked .ensures, c .before .truth-answer .ensures, c .before .before .is-unconfirmed-end-device-child .ensures, c .before .before .before .eui64 .ensures)
+returns c = rw (c .truth-answer .ensures, c .before .is-unconfirmed-end-device-child .ensures, c .before .before .eui64 .ensures)
 
 pub is-unconfirmed-end-device-child-spec : {M : Type 1} → statement M
 is-unconfirmed-end-device-child-spec =
@@ -27,5 +24,4 @@ is-unconfirmed-end-device-child-spec =
     eui64-requires
     is-unconfirmed-end-device-child-requires
     truth-answer-requires
-    asked-requires
     returns)

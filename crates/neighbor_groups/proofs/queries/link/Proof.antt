@@ -13,13 +13,10 @@ link-requires c κs = search needs
 link-answer-requires : tie.Need-link-answer-requires
 link-answer-requires c κs = search needs
 
-asked-requires : tie.Need-asked-requires
-asked-requires c κs = search needs
-
 returns : tie.Need-returns
 unfolding linkCall
-returns c = rw (c .asked .ensures, c .before .link-answer .ensures, c .before .before .link .ensures, c .before .before .before .nwk .ensures)
+returns c = rw (c .link-answer .ensures, c .before .link .ensures, c .before .before .nwk .ensures)
 
 pub link-spec : {M : Type 1} → statement M
 link-spec =
-    tie.close (tie.spec nwk-requires link-requires link-answer-requires asked-requires returns)
+    tie.close (tie.spec nwk-requires link-requires link-answer-requires returns)

@@ -16,14 +16,11 @@ cast-one c = search needs
 one-requires : tie.Need-one-requires
 one-requires c κs = search needs
 
-asked-requires : tie.Need-asked-requires
-asked-requires c κs = search needs
-
 returns : tie.Need-returns
 unfolding lqiToLinkCostCall
-returns c = rw (c .asked .ensures, c .before .one .ensures, c .before .before .lqi-to-link-cost .ensures, c .before .before .before .byte .ensures)
+returns c = rw (c .one .ensures, c .before .lqi-to-link-cost .ensures, c .before .before .byte .ensures)
 
 pub lqi-to-link-cost-spec : {M : Type 1} → statement M
 lqi-to-link-cost-spec =
     tie.close
-    (tie.spec byte-requires lqi-to-link-cost-requires cast-one one-requires asked-requires returns)
+    (tie.spec byte-requires lqi-to-link-cost-requires cast-one one-requires returns)

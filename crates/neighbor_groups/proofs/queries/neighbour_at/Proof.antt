@@ -13,13 +13,10 @@ entry-at-requires c κs = search needs
 entry-answer-requires : tie.Need-entry-answer-requires
 entry-answer-requires c κs = search needs
 
-asked-requires : tie.Need-asked-requires
-asked-requires c κs = search needs
-
 returns : tie.Need-returns
 unfolding neighbourAtCall
-returns c = rw (c .asked .ensures, c .before .entry-answer .ensures, c .before .before .entry-at .ensures, c .before .before .before .at .ensures)
+returns c = rw (c .entry-answer .ensures, c .before .entry-at .ensures, c .before .before .at .ensures)
 
 pub neighbour-at-spec : {M : Type 1} → statement M
 neighbour-at-spec =
-    tie.close (tie.spec at-requires entry-at-requires entry-answer-requires asked-requires returns)
+    tie.close (tie.spec at-requires entry-at-requires entry-answer-requires returns)

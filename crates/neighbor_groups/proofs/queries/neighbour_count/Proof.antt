@@ -10,13 +10,10 @@ count-requires c κs = search needs
 count-answer-requires : tie.Need-count-answer-requires
 count-answer-requires c κs = search needs
 
-asked-requires : tie.Need-asked-requires
-asked-requires c κs = search needs
-
 returns : tie.Need-returns
 unfolding neighbourCountCall
-returns c = rw (c .asked .ensures, c .before .count-answer .ensures, c .before .before .count .ensures)
+returns c = rw (c .count-answer .ensures, c .before .count .ensures)
 
 pub neighbour-count-spec : {M : Type 1} → statement M
 neighbour-count-spec =
-    tie.close (tie.spec count-requires count-answer-requires asked-requires returns)
+    tie.close (tie.spec count-requires count-answer-requires returns)

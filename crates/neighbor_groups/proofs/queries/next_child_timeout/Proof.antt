@@ -10,13 +10,10 @@ next-child-timeout-requires c κs = search needs
 moment-answer-requires : tie.Need-moment-answer-requires
 moment-answer-requires c κs = search needs
 
-asked-requires : tie.Need-asked-requires
-asked-requires c κs = search needs
-
 returns : tie.Need-returns
 unfolding nextChildTimeoutCall
-returns c = rw (c .asked .ensures, c .before .moment-answer .ensures, c .before .before .next-child-timeout .ensures)
+returns c = rw (c .moment-answer .ensures, c .before .next-child-timeout .ensures)
 
 pub next-child-timeout-spec : {M : Type 1} → statement M
 next-child-timeout-spec =
-    tie.close (tie.spec next-child-timeout-requires moment-answer-requires asked-requires returns)
+    tie.close (tie.spec next-child-timeout-requires moment-answer-requires returns)

@@ -1,5 +1,4 @@
--- The answer is said, and the state put back.
-use mathlib.Core.Path.{_∙_}
+-- The answer is said beside the state.
 use borrow.Author.Needs.{needs}
 use Rattle.routing_groups.proofs.changes.done_reply.Statement.{statement}
 use Rattle.routing_groups.proofs.changes.done_reply.Tie as tie
@@ -7,11 +6,8 @@ use Rattle.routing_groups.proofs.changes.done_reply.Tie as tie
 done-answer-requires : tie.Need-done-answer-requires
 done-answer-requires c κs = search needs
 
-routed-requires : tie.Need-routed-requires
-routed-requires c κs = search needs
-
 returns : tie.Need-returns
-returns c = c .routed .ensures ∙ rw (c .before .before .done-answer .ensures)
+returns c = rw (c .before .done-answer .ensures)
 
 pub done-reply-spec : {M : Type 1} → statement M
-done-reply-spec = tie.close (tie.spec done-answer-requires routed-requires returns)
+done-reply-spec = tie.close (tie.spec done-answer-requires returns)

@@ -1,5 +1,4 @@
--- The answer is said, and the state put back.
-use mathlib.Core.Path.{_∙_}
+-- The answer is said beside the state.
 use borrow.Author.Needs.{needs}
 use Rattle.routing_groups.proofs.changes.reply_reply.Statement.{statement}
 use Rattle.routing_groups.proofs.changes.reply_reply.Tie as tie
@@ -7,11 +6,8 @@ use Rattle.routing_groups.proofs.changes.reply_reply.Tie as tie
 reply-answer-requires : tie.Need-reply-answer-requires
 reply-answer-requires c κs = search needs
 
-routed-requires : tie.Need-routed-requires
-routed-requires c κs = search needs
-
 returns : tie.Need-returns
-returns c = c .routed .ensures ∙ rw (c .before .before .reply-answer .ensures)
+returns c = rw (c .before .reply-answer .ensures)
 
 pub reply-reply-spec : {M : Type 1} → statement M
-reply-reply-spec = tie.close (tie.spec reply-answer-requires routed-requires returns)
+reply-reply-spec = tie.close (tie.spec reply-answer-requires returns)

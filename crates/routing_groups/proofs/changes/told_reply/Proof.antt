@@ -1,5 +1,4 @@
--- The answer is said, and the state put back.
-use mathlib.Core.Path.{_∙_}
+-- The answer is said beside the state.
 use borrow.Author.Needs.{needs}
 use Rattle.routing_groups.proofs.changes.told_reply.Statement.{statement}
 use Rattle.routing_groups.proofs.changes.told_reply.Tie as tie
@@ -7,11 +6,8 @@ use Rattle.routing_groups.proofs.changes.told_reply.Tie as tie
 told-answer-requires : tie.Need-told-answer-requires
 told-answer-requires c κs = search needs
 
-routed-requires : tie.Need-routed-requires
-routed-requires c κs = search needs
-
 returns : tie.Need-returns
-returns c = c .routed .ensures ∙ rw (c .before .before .told-answer .ensures)
+returns c = rw (c .before .told-answer .ensures)
 
 pub told-reply-spec : {M : Type 1} → statement M
-told-reply-spec = tie.close (tie.spec told-answer-requires routed-requires returns)
+told-reply-spec = tie.close (tie.spec told-answer-requires returns)

@@ -1,5 +1,4 @@
 -- The state is asked, and the answer said.
-use mathlib.Core.Path.{_∙_}
 use Rattle.routing_groups.specs.Asked.{checkCall}
 use borrow.Author.Needs.{needs}
 use Rattle.routing_groups.proofs.questions.check.Statement.{statement}
@@ -11,12 +10,9 @@ check-requires c κs = search needs
 check-answer-requires : tie.Need-check-answer-requires
 check-answer-requires c κs = search needs
 
-asked-requires : tie.Need-asked-requires
-asked-requires c κs = search needs
-
 returns : tie.Need-returns
 unfolding checkCall
-returns c = c .asked .ensures ∙ rw (c .before .check-answer .ensures, c .before .before .check .ensures)
+returns c = rw (c .check-answer .ensures, c .before .check .ensures)
 
 pub check-spec : {M : Type 1} → statement M
-check-spec = tie.close (tie.spec check-requires check-answer-requires asked-requires returns)
+check-spec = tie.close (tie.spec check-requires check-answer-requires returns)

@@ -1,5 +1,4 @@
 -- The state is asked with what the numbers give, and the answer said.
-use mathlib.Core.Path.{_∙_}
 use Rattle.routing_groups.specs.Asked.{discoveryAtCall}
 use borrow.Author.Needs.{needs}
 use Rattle.routing_groups.proofs.questions.discovery_at.Statement.{statement}
@@ -14,12 +13,9 @@ discovery-at-requires c κs = search needs
 discovery-at-answer-requires : tie.Need-discovery-at-answer-requires
 discovery-at-answer-requires c κs = search needs
 
-asked-requires : tie.Need-asked-requires
-asked-requires c κs = search needs
-
 returns : tie.Need-returns
 unfolding discoveryAtCall
-returns c = c .asked .ensures ∙ rw (c .before .discovery-at-answer .ensures, c .before .before .discovery-at .ensures, c .before .before .before .at .ensures)
+returns c = rw (c .discovery-at-answer .ensures, c .before .discovery-at .ensures, c .before .before .at .ensures)
 
 pub discovery-at-spec : {M : Type 1} → statement M
-discovery-at-spec = tie.close (tie.spec at-requires discovery-at-requires discovery-at-answer-requires asked-requires returns)
+discovery-at-spec = tie.close (tie.spec at-requires discovery-at-requires discovery-at-answer-requires returns)

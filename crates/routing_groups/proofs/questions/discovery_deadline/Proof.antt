@@ -1,5 +1,4 @@
 -- The state is asked with what the numbers give, and the answer said.
-use mathlib.Core.Path.{_∙_}
 use Rattle.routing_groups.specs.Asked.{discoveryDeadlineCall}
 use borrow.Author.Needs.{needs}
 use Rattle.routing_groups.proofs.questions.discovery_deadline.Statement.{statement}
@@ -17,12 +16,9 @@ discovery-deadline-requires c κs = search needs
 deadline-answer-requires : tie.Need-deadline-answer-requires
 deadline-answer-requires c κs = search needs
 
-asked-requires : tie.Need-asked-requires
-asked-requires c κs = search needs
-
 returns : tie.Need-returns
 unfolding discoveryDeadlineCall
-returns c = c .asked .ensures ∙ rw (c .before .deadline-answer .ensures, c .before .before .discovery-deadline .ensures, c .before .before .before .at .ensures, c .before .before .before .before .nwk .ensures)
+returns c = rw (c .deadline-answer .ensures, c .before .discovery-deadline .ensures, c .before .before .at .ensures, c .before .before .before .nwk .ensures)
 
 pub discovery-deadline-spec : {M : Type 1} → statement M
-discovery-deadline-spec = tie.close (tie.spec nwk-requires at-requires discovery-deadline-requires deadline-answer-requires asked-requires returns)
+discovery-deadline-spec = tie.close (tie.spec nwk-requires at-requires discovery-deadline-requires deadline-answer-requires returns)

@@ -1,5 +1,4 @@
 -- The state is asked with what the numbers give, and the answer said.
-use mathlib.Core.Path.{_∙_}
 use Rattle.routing_groups.specs.Asked.{nextHopCall}
 use borrow.Author.Needs.{needs}
 use Rattle.routing_groups.proofs.questions.next_hop.Statement.{statement}
@@ -14,12 +13,9 @@ next-hop-requires c κs = search needs
 hop-answer-requires : tie.Need-hop-answer-requires
 hop-answer-requires c κs = search needs
 
-asked-requires : tie.Need-asked-requires
-asked-requires c κs = search needs
-
 returns : tie.Need-returns
 unfolding nextHopCall
-returns c = c .asked .ensures ∙ rw (c .before .hop-answer .ensures, c .before .before .next-hop .ensures, c .before .before .before .nwk .ensures)
+returns c = rw (c .hop-answer .ensures, c .before .next-hop .ensures, c .before .before .nwk .ensures)
 
 pub next-hop-spec : {M : Type 1} → statement M
-next-hop-spec = tie.close (tie.spec nwk-requires next-hop-requires hop-answer-requires asked-requires returns)
+next-hop-spec = tie.close (tie.spec nwk-requires next-hop-requires hop-answer-requires returns)

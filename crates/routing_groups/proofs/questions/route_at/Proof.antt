@@ -1,5 +1,4 @@
 -- The state is asked with what the numbers give, and the answer said.
-use mathlib.Core.Path.{_∙_}
 use Rattle.routing_groups.specs.Asked.{routeAtCall}
 use borrow.Author.Needs.{needs}
 use Rattle.routing_groups.proofs.questions.route_at.Statement.{statement}
@@ -14,12 +13,9 @@ route-at-requires c κs = search needs
 route-at-answer-requires : tie.Need-route-at-answer-requires
 route-at-answer-requires c κs = search needs
 
-asked-requires : tie.Need-asked-requires
-asked-requires c κs = search needs
-
 returns : tie.Need-returns
 unfolding routeAtCall
-returns c = c .asked .ensures ∙ rw (c .before .route-at-answer .ensures, c .before .before .route-at .ensures, c .before .before .before .at .ensures)
+returns c = rw (c .route-at-answer .ensures, c .before .route-at .ensures, c .before .before .at .ensures)
 
 pub route-at-spec : {M : Type 1} → statement M
-route-at-spec = tie.close (tie.spec at-requires route-at-requires route-at-answer-requires asked-requires returns)
+route-at-spec = tie.close (tie.spec at-requires route-at-requires route-at-answer-requires returns)

@@ -1,5 +1,4 @@
 -- The state is asked with what the numbers give, and the answer said.
-use mathlib.Core.Path.{_∙_}
 use Rattle.routing_groups.specs.Asked.{routeStatusCall}
 use borrow.Author.Needs.{needs}
 use Rattle.routing_groups.proofs.questions.route_status.Statement.{statement}
@@ -14,12 +13,9 @@ route-status-requires c κs = search needs
 status-answer-requires : tie.Need-status-answer-requires
 status-answer-requires c κs = search needs
 
-asked-requires : tie.Need-asked-requires
-asked-requires c κs = search needs
-
 returns : tie.Need-returns
 unfolding routeStatusCall
-returns c = c .asked .ensures ∙ rw (c .before .status-answer .ensures, c .before .before .route-status .ensures, c .before .before .before .nwk .ensures)
+returns c = rw (c .status-answer .ensures, c .before .route-status .ensures, c .before .before .nwk .ensures)
 
 pub route-status-spec : {M : Type 1} → statement M
-route-status-spec = tie.close (tie.spec nwk-requires route-status-requires status-answer-requires asked-requires returns)
+route-status-spec = tie.close (tie.spec nwk-requires route-status-requires status-answer-requires returns)

@@ -1,5 +1,4 @@
 -- The state is asked with what the numbers give, and the answer said.
-use mathlib.Core.Path.{_∙_}
 use Rattle.routing_groups.specs.Recorded.{recordAtCall}
 use borrow.Author.Needs.{needs}
 use Rattle.routing_groups.proofs.records.record_at.Statement.{statement}
@@ -14,12 +13,9 @@ record-at-requires c κs = search needs
 record-at-answer-requires : tie.Need-record-at-answer-requires
 record-at-answer-requires c κs = search needs
 
-asked-requires : tie.Need-asked-requires
-asked-requires c κs = search needs
-
 returns : tie.Need-returns
 unfolding recordAtCall
-returns c = c .asked .ensures ∙ rw (c .before .record-at-answer .ensures, c .before .before .record-at .ensures, c .before .before .before .at .ensures)
+returns c = rw (c .record-at-answer .ensures, c .before .record-at .ensures, c .before .before .at .ensures)
 
 pub record-at-spec : {M : Type 1} → statement M
-record-at-spec = tie.close (tie.spec at-requires record-at-requires record-at-answer-requires asked-requires returns)
+record-at-spec = tie.close (tie.spec at-requires record-at-requires record-at-answer-requires returns)

@@ -1,5 +1,4 @@
--- The answer is said, and the state put back.
-use mathlib.Core.Path.{_∙_}
+-- The answer is said beside the state.
 use borrow.Author.Needs.{needs}
 use Rattle.routing_groups.proofs.records.record_reply.Statement.{statement}
 use Rattle.routing_groups.proofs.records.record_reply.Tie as tie
@@ -7,11 +6,8 @@ use Rattle.routing_groups.proofs.records.record_reply.Tie as tie
 record-answer-requires : tie.Need-record-answer-requires
 record-answer-requires c κs = search needs
 
-routed-requires : tie.Need-routed-requires
-routed-requires c κs = search needs
-
 returns : tie.Need-returns
-returns c = c .routed .ensures ∙ rw (c .before .before .record-answer .ensures)
+returns c = rw (c .before .record-answer .ensures)
 
 pub record-reply-spec : {M : Type 1} → statement M
-record-reply-spec = tie.close (tie.spec record-answer-requires routed-requires returns)
+record-reply-spec = tie.close (tie.spec record-answer-requires returns)

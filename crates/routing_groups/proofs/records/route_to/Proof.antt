@@ -1,5 +1,4 @@
 -- The state is asked with what the numbers give, and the answer said.
-use mathlib.Core.Path.{_∙_}
 use Rattle.routing_groups.specs.Recorded.{routeToCall}
 use borrow.Author.Needs.{needs}
 use Rattle.routing_groups.proofs.records.route_to.Statement.{statement}
@@ -17,12 +16,9 @@ route-to-requires c κs = search needs
 way-answer-requires : tie.Need-way-answer-requires
 way-answer-requires c κs = search needs
 
-asked-requires : tie.Need-asked-requires
-asked-requires c κs = search needs
-
 returns : tie.Need-returns
 unfolding routeToCall
-returns c = c .asked .ensures ∙ rw (c .before .way-answer .ensures, c .before .before .route-to .ensures, c .before .before .before .byte .ensures, c .before .before .before .before .nwk .ensures)
+returns c = rw (c .way-answer .ensures, c .before .route-to .ensures, c .before .before .byte .ensures, c .before .before .before .nwk .ensures)
 
 pub route-to-spec : {M : Type 1} → statement M
-route-to-spec = tie.close (tie.spec nwk-requires byte-requires route-to-requires way-answer-requires asked-requires returns)
+route-to-spec = tie.close (tie.spec nwk-requires byte-requires route-to-requires way-answer-requires returns)

@@ -1,5 +1,4 @@
 -- The state is asked with what the numbers give, and the answer said.
-use mathlib.Core.Path.{_∙_}
 use Rattle.routing_groups.specs.Recorded.{routeToDefaultCall}
 use borrow.Author.Needs.{needs}
 use Rattle.routing_groups.proofs.records.route_to_default.Statement.{statement}
@@ -14,12 +13,9 @@ route-to-default-requires c κs = search needs
 way-answer-requires : tie.Need-way-answer-requires
 way-answer-requires c κs = search needs
 
-asked-requires : tie.Need-asked-requires
-asked-requires c κs = search needs
-
 returns : tie.Need-returns
 unfolding routeToDefaultCall
-returns c = c .asked .ensures ∙ rw (c .before .way-answer .ensures, c .before .before .route-to-default .ensures, c .before .before .before .nwk .ensures)
+returns c = rw (c .way-answer .ensures, c .before .route-to-default .ensures, c .before .before .nwk .ensures)
 
 pub route-to-default-spec : {M : Type 1} → statement M
-route-to-default-spec = tie.close (tie.spec nwk-requires route-to-default-requires way-answer-requires asked-requires returns)
+route-to-default-spec = tie.close (tie.spec nwk-requires route-to-default-requires way-answer-requires returns)
