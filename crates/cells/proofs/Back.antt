@@ -3,7 +3,7 @@
 -- Assumes nothing.
 use Prim.Native.Nat.{ℕ, _+_, _*_, _%_, _<_}
 use mathlib.Core.Bool.{Bool, true, false, not}
-use mathlib.Core.List.{List, [], _∷_, _++_, append-assoc, flatMap}
+use mathlib.Core.List.{List, [], _∷_, _++_, append-assoc, map, map-id, flatMap}
 use mathlib.Core.Path.{_≡_, refl, sym, ap, ap₂, _∙_}
 use native.Mathlib.Nat.{add-mul, one-mul, zero-mul, add-zero, mod-eq-of-lt}
 use native.Mathlib.Omega.{arith}
@@ -34,19 +34,28 @@ flag-back false e = ap (λ (n : ℕ). not (eqb n 0)) e
 pub after : (p q xs : List ℕ) (b w : ℕ) → drop b xs ≡ p ++ q → length p ≡ w → drop (b + w) xs ≡ q
 after p q xs b w h l = sym (drop-drop w b xs) ∙ ap (drop w) h ∙ drop-at p q w l
 
-keys-from : (ks xs rest : List ℕ) (b i : ℕ) → drop (b + i) xs ≡ ks ++ rest → listed (λ k. numberAt xs (b + k)) i (length ks) ≡ ks
+-- numbers that stand in a row, each read by a function
+numbers-from : (f : ℕ → ℕ) (ns xs rest : List ℕ) (b i : ℕ) → drop (b + i) xs ≡ ns ++ rest → listed (λ k. f (numberAt xs (b + k))) i (length ns) ≡ map f ns
 unfolding listed
-keys-from [] xs rest b i h = refl
-keys-from (k ∷ ks) xs rest b i h =
+numbers-from f [] xs rest b i h = refl
+numbers-from f (n ∷ ns) xs rest b i h =
     let s : b + (i + 1) ≡ b + i + 1 = omega arith in
     ap₂ (λ (x : ℕ) (l : List ℕ). x ∷ l)
-    (first-there xs (k ∷ ks ++ rest) (b + i) h)
-    (keys-from ks xs rest b (i + 1) (ap (λ (m : ℕ). drop m xs) s ∙ after (k ∷ []) (ks ++ rest) xs (b + i) 1 h refl))
+    (ap f (first-there xs (n ∷ ns ++ rest) (b + i) h))
+    (numbers-from f ns xs rest b (i + 1) (ap (λ (m : ℕ). drop m xs) s ∙ after (n ∷ []) (ns ++ rest) xs (b + i) 1 h refl))
+
+pub numbers-back : (f : ℕ → ℕ) (ns xs rest : List ℕ) (b n : ℕ) → drop b xs ≡ ns ++ rest → length ns ≡ n → listed (λ k. f (numberAt xs (b + k))) 0 n ≡ map f ns
+numbers-back f ns xs rest b n h l =
+    ap (listed (λ k. f (numberAt xs (b + k))) 0) (sym l) ∙ numbers-from f ns xs rest b 0 (ap (λ (m : ℕ). drop m xs) (add-zero b) ∙ h)
+
+-- numbers that fit their field are not cut
+pub cut-each : (k : ℕ) (ns : List ℕ) → Each (λ n. n < k) ns → map (λ n. n % k) ns ≡ ns
+cut-each k [] a = refl
+cut-each k (n ∷ ns) a = ap₂ (λ (x : ℕ) (l : List ℕ). x ∷ l) (mod-eq-of-lt (a .0)) (cut-each k ns (a .1))
 
 pub keys-back : (ks xs rest : List ℕ) (b n : ℕ) → drop b xs ≡ ks ++ rest → length ks ≡ n → keysAt xs b n ≡ ks
 unfolding keysAt
-keys-back ks xs rest b n h l =
-    ap (listed (λ k. numberAt xs (b + k)) 0) (sym l) ∙ keys-from ks xs rest b 0 (ap (λ (m : ℕ). drop m xs) (add-zero b) ∙ h)
+keys-back ks xs rest b n h l = numbers-back (λ k. k) ks xs rest b n h l ∙ map-id ks
 
 -- rows of w numbers each, of elements that are read back one by one
 module _ {E : Type 0} (g : E → List ℕ) (w : ℕ) (r : List ℕ → ℕ → E) (P : E → Type 0) (sized : (e : E) → length (g e) ≡ w) (back : (e : E) (xs rest : List ℕ) (b : ℕ) → drop b xs ≡ g e ++ rest → P e → r xs b ≡ e) where

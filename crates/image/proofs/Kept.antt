@@ -2,16 +2,14 @@
 -- The store's numbers are addresses, and the world's fit their fields, as those of any value of the types do.
 -- Assumes nothing.
 use Prim.Native.Nat.{ℕ, _+_, _%_, _<_, _≤_}
-use mathlib.Core.List.{List, [], _∷_, _++_, append-assoc}
-use mathlib.Core.Path.{_≡_, refl, sym, ap, ap₂, _∙_}
-use native.Mathlib.Nat.{add-zero}
+use mathlib.Core.List.{List, _++_, append-assoc}
+use mathlib.Core.Path.{_≡_, _∙_}
 use native.Mathlib.Omega.{arith}
 use lib.ListN.{length, drop, length-append}
 use lib.Seq.{sets, sets-eq}
-use Rattle.numbers.specs.Read.{numberAt, listed}
 use Rattle.flat_map.specs.Table.{Each}
 use Rattle.world.specs.declared.World.{World}
-use Rattle.cells.proofs.Back.{after, first-there, cut-back}
+use Rattle.cells.proofs.Back.{after, numbers-back, cut-each}
 use Rattle.cells.proofs.Writing.{put-both}
 use Rattle.neighbor_image.specs.Neighbors.{waitingTableNumbers}
 use Rattle.neighbor_image.specs.Neighbors as tables
@@ -23,21 +21,10 @@ use Rattle.image.proofs.Back.{WorldFits, world-back}
 abbrev pub Address : ℕ → Type 0
 Address n = n < 65536
 
-addresses-from : (store xs rest : List ℕ) (b i : ℕ) → drop (b + i) xs ≡ store ++ rest → Each Address store → listed (λ k. numberAt xs (b + k) % 65536) i (length store) ≡ store
-unfolding listed
-addresses-from [] xs rest b i h a = refl
-addresses-from (n ∷ store) xs rest b i h a =
-    let s : b + (i + 1) ≡ b + i + 1 = omega arith in
-    ap₂ (λ (x : ℕ) (l : List ℕ). x ∷ l)
-    (cut-back 65536 (first-there xs (n ∷ store ++ rest) (b + i) h) (a .0))
-    (addresses-from store xs rest b (i + 1) (ap (λ (m : ℕ). drop m xs) s ∙ after (n ∷ []) (store ++ rest) xs (b + i) 1 h refl) (a .1))
-
 -- a store that stands in its place is read
 pub store-there : (store xs rest : List ℕ) → drop 3402 xs ≡ store ++ rest → length store ≡ 2048 → Each Address store → storeIn xs ≡ store
 unfolding storeIn
-store-there store xs rest h l a =
-    ap (listed (λ k. numberAt xs (3402 + k) % 65536) 0) (sym l)
-    ∙ addresses-from store xs rest 3402 0 (ap (λ (m : ℕ). drop m xs) (add-zero 3402) ∙ h) a
+store-there store xs rest h l a = numbers-back (λ n. n % 65536) store xs rest 3402 2048 h l ∙ cut-each 65536 store a
 
 -- a world has 3,402 numbers
 pub world-long : (w : World) → WorldFits w → length (worldNumbers w) ≡ 3402
