@@ -5,7 +5,7 @@ use mathlib.Core.Bool.{cond}
 use mathlib.Core.List.{List, [], _∷_, _++_}
 use lib.Dec.{eqb, ltb}
 use lib.ListN.{getD}
-use Rattle.numbers.specs.Said.{Said, ok, bad}
+use Rattle.numbers.specs.Said.{Said, ok, bad, spoken}
 use Rattle.routing.specs.declared.Routing.{Routing}
 use Rattle.neighbors.specs.declared.Neighbors.{Neighbors}
 use Rattle.route_loads.specs.declared.RoutingReply.{RoutingReply}
@@ -14,7 +14,7 @@ use Rattle.neighbor_loads.specs.declared.NeighborsReply.{NeighborsReply}
 use Rattle.neighbor_loads.specs.Prints.{neighborLines}
 use Rattle.world.specs.declared.World.{World}
 use Rattle.world.specs.declared.Reply.{Reply}
-use Rattle.world.specs.Worlds.{freshWorld, asked}
+use Rattle.world.specs.Worlds.{freshWorld, asked, routed, neighboured}
 use Rattle.routing_groups.specs.Groups.{askRouting, askRecords, changeRoutes, changeSearches, loadRoutes, changeRecords, storeAfter}
 use Rattle.neighbor_groups.specs.Groups.{askNeighbors, askChildren, listNeighbors, noteNeighbors, changeChildren, loadNeighbors}
 use Rattle.decision_lines.specs.Lines.{decideBy}
@@ -47,19 +47,19 @@ neighborsBy s g n args = cond (eqb g 11) (noteNeighbors s n args) (cond (eqb g 1
 
 -- what a call on one state leaves of the world
 abbrev pub routedBy : World → RoutingReply → Reply
-routedBy w x = record { world = record { routing = x .state; neighbors = w .neighbors }; answer = x .answer }
+routedBy w x = routed w (x .state) (x .answer)
 
 abbrev pub neighbouredBy : World → NeighborsReply → Reply
-neighbouredBy w x = record { world = record { routing = w .routing; neighbors = x .state }; answer = x .answer }
+neighbouredBy w x = neighboured w (x .state) (x .answer)
 
 -- a call by its group
 unfoldable pub callBy : World → ℕ → ℕ → List ℕ → List ℕ → Reply
 callBy w g n args store =
-    cond (ltb g 7) (asked w (askBy w g n args store))
+    cond (ltb g 7) (asked w (spoken (askBy w g n args store)))
     (cond (eqb g 10) (routedBy w (changeRecords (w .routing) n args store))
     (cond (ltb g 10) (routedBy w (routesBy (w .routing) g n args))
     (cond (ltb g 14) (neighbouredBy w (neighborsBy (w .neighbors) g n args))
-    (asked freshWorld (ok [])))))
+    (asked freshWorld (spoken (ok []))))))
 
 -- The call of a number, and the store after it.
 unfoldable pub callOf : World → ℕ → List ℕ → List ℕ → Reply

@@ -3,7 +3,7 @@ use neighbors::Neighbors;
 use numbers::Answer;
 use routing::Routing;
 ghost use mathlib.Core.Path.{_≡_};
-ghost use Rattle.world.specs.Worlds.{freshWorld};
+ghost use Rattle.world.specs.Worlds.{freshWorld, asked, routed, neighboured};
 
 pub struct World {
     pub routing: Routing,
@@ -27,14 +27,14 @@ pub fn fresh() -> World
 
 // A question's answer: the world stays.
 pub fn asked(world: World, answer: Answer) -> Reply
-    ensures { λ r. ⌜ r ≡ record { world = world; answer = answer } ⌝ }
+    ensures { λ r. ⌜ r ≡ asked world answer ⌝ }
 {
     Reply { world, answer }
 }
 
 // The answer of a call on the routing state.
 pub fn routed(world: World, routing: Routing, answer: Answer) -> Reply
-    ensures { λ r. ⌜ r ≡ record { world = record { routing = routing; neighbors = world .neighbors }; answer = answer } ⌝ }
+    ensures { λ r. ⌜ r ≡ routed world routing answer ⌝ }
 {
     let neighbors = world.neighbors;
     let world = World { routing, neighbors };
@@ -43,7 +43,7 @@ pub fn routed(world: World, routing: Routing, answer: Answer) -> Reply
 
 // The answer of a call on the neighbours.
 pub fn neighboured(world: World, neighbors: Neighbors, answer: Answer) -> Reply
-    ensures { λ r. ⌜ r ≡ record { world = record { routing = world .routing; neighbors = neighbors }; answer = answer } ⌝ }
+    ensures { λ r. ⌜ r ≡ neighboured world neighbors answer ⌝ }
 {
     let routing = world.routing;
     let world = World { routing, neighbors };
