@@ -21,7 +21,7 @@ use Rattle.decision_lines.specs.Lines.{decideBy}
 
 -- the group of each number: 1 to 6 ask, 7 to 10 change the routing state, 11 to 13 the neighbours, and 14 makes both fresh; 0 for what is no call here
 unfoldable pub groups : List ℕ
-groups = 14 ∷ 0 ∷ 1 ∷ 9 ∷ 9 ∷ 9 ∷ 10 ∷ 13 ∷ 13 ∷ 7 ∷ 7 ∷ 7 ∷ 1 ∷ 1 ∷ 1 ∷ 1 ∷ 7 ∷ 7 ∷ 7 ∷ 7 ∷ 7 ∷ 8 ∷ 10 ∷ 10 ∷ 8 ∷ 8 ∷ 1 ∷ 5 ∷ 5 ∷ 8 ∷ 8 ∷ 8 ∷ 8 ∷ 2 ∷ 11 ∷ 2 ∷ 2 ∷ 2 ∷ 4 ∷ 4 ∷ 4 ∷ 2 ∷ 2 ∷ 2 ∷ 4 ∷ 3 ∷ 3 ∷ 3 ∷ 12 ∷ 12 ∷ 11 ∷ 12 ∷ 4 ∷ 3 ∷ 12 ∷ 12 ∷ 12 ∷ 3 ∷ 12 ∷ 11 ∷ 3 ∷ 4 ∷ 4 ∷ 11 ∷ 11 ∷ 11 ∷ 11 ∷ 12 ∷ 6 ∷ 6 ∷ 6 ∷ 1 ∷ 1 ∷ 1 ∷ 5 ∷ 9 ∷ 9 ∷ 9 ∷ 13 ∷ 13 ∷ 9 ∷ 9 ∷ 9 ∷ 13 ∷ 13 ∷ 0 ∷ 0 ∷ []
+groups = 14 ∷ 0 ∷ 1 ∷ 10 ∷ 10 ∷ 10 ∷ 7 ∷ 13 ∷ 13 ∷ 8 ∷ 8 ∷ 8 ∷ 1 ∷ 1 ∷ 1 ∷ 1 ∷ 8 ∷ 8 ∷ 8 ∷ 8 ∷ 8 ∷ 9 ∷ 7 ∷ 7 ∷ 9 ∷ 9 ∷ 1 ∷ 5 ∷ 5 ∷ 9 ∷ 9 ∷ 9 ∷ 9 ∷ 2 ∷ 11 ∷ 2 ∷ 2 ∷ 2 ∷ 4 ∷ 4 ∷ 4 ∷ 2 ∷ 2 ∷ 2 ∷ 4 ∷ 3 ∷ 3 ∷ 3 ∷ 12 ∷ 12 ∷ 11 ∷ 12 ∷ 4 ∷ 3 ∷ 12 ∷ 12 ∷ 12 ∷ 3 ∷ 12 ∷ 11 ∷ 3 ∷ 4 ∷ 4 ∷ 11 ∷ 11 ∷ 11 ∷ 11 ∷ 12 ∷ 6 ∷ 6 ∷ 6 ∷ 1 ∷ 1 ∷ 1 ∷ 5 ∷ 10 ∷ 10 ∷ 10 ∷ 13 ∷ 13 ∷ 10 ∷ 10 ∷ 10 ∷ 13 ∷ 13 ∷ 0 ∷ 0 ∷ []
 
 unfoldable pub groupOf : ℕ → ℕ
 groupOf n = getD groups n 0
@@ -39,7 +39,7 @@ askBy w g n args store =
 
 -- a call that changes the routing state and is not lent the store
 unfoldable pub routesBy : Routing → ℕ → ℕ → List ℕ → RoutingReply
-routesBy s g n args = cond (eqb g 7) (changeRoutes s n args) (cond (eqb g 8) (changeSearches s n args) (loadRoutes s n args))
+routesBy s g n args = cond (eqb g 8) (changeRoutes s n args) (cond (eqb g 9) (changeSearches s n args) (loadRoutes s n args))
 
 -- a call that changes the neighbours
 unfoldable pub neighborsBy : Neighbors → ℕ → ℕ → List ℕ → NeighborsReply
@@ -56,8 +56,8 @@ neighbouredBy w x = neighboured w (x .state) (x .answer)
 unfoldable pub callBy : World → ℕ → ℕ → List ℕ → List ℕ → Reply
 callBy w g n args store =
     cond (ltb g 7) (asked w (spoken (askBy w g n args store)))
-    (cond (eqb g 10) (routedBy w (changeRecords (w .routing) n args store))
-    (cond (ltb g 10) (routedBy w (routesBy (w .routing) g n args))
+    (cond (eqb g 7) (routedBy w (changeRecords (w .routing) n args store))
+    (cond (ltb g 11) (routedBy w (routesBy (w .routing) g n args))
     (cond (ltb g 14) (neighbouredBy w (neighborsBy (w .neighbors) g n args))
     (asked freshWorld (spoken (ok []))))))
 
@@ -66,7 +66,7 @@ unfoldable pub callOf : World → ℕ → List ℕ → List ℕ → Reply
 callOf w n args store = callBy w (groupOf n) n args store
 
 unfoldable pub storeOf : World → ℕ → List ℕ → List ℕ → List ℕ
-storeOf w n args store = cond (eqb (groupOf n) 10) (storeAfter (w .routing) n args store) store
+storeOf w n args store = cond (eqb (groupOf n) 7) (storeAfter (w .routing) n args store) store
 
 -- the lines that print the world: counters, routes, discoveries, records, neighbours, waiting
 unfoldable pub worldLines : World → List ℕ → List (List ℕ)

@@ -16,36 +16,36 @@ const GROUPS: [u64; 87] = [
     14,
     0,
     1,
-    9,
-    9,
-    9,
     10,
+    10,
+    10,
+    7,
     13,
     13,
-    7,
-    7,
-    7,
-    1,
-    1,
-    1,
-    1,
-    7,
-    7,
-    7,
-    7,
-    7,
-    8,
-    10,
-    10,
     8,
     8,
+    8,
+    1,
+    1,
+    1,
+    1,
+    8,
+    8,
+    8,
+    8,
+    8,
+    9,
+    7,
+    7,
+    9,
+    9,
     1,
     5,
     5,
-    8,
-    8,
-    8,
-    8,
+    9,
+    9,
+    9,
+    9,
     2,
     11,
     2,
@@ -88,14 +88,14 @@ const GROUPS: [u64; 87] = [
     1,
     1,
     5,
-    9,
-    9,
-    9,
+    10,
+    10,
+    10,
     13,
     13,
-    9,
-    9,
-    9,
+    10,
+    10,
+    10,
     13,
     13,
     0,
@@ -144,10 +144,10 @@ fn ask(world: World, group: u64, number: u64, args: &[u64], store: &[u16]) -> An
 fn change_routing(routing: Routing, group: u64, number: u64, args: &[u64]) -> RoutingReply
     ensures { λ r. ⌜ r ≡ routesBy routing group number (now (args .entry)) ⌝ }
 {
-    if group == 7 {
+    if group == 8 {
         return routing_groups::change_routes(routing, number, args);
     }
-    if group == 8 {
+    if group == 9 {
         return routing_groups::change_searches(routing, number, args);
     }
     routing_groups::load_routes(routing, number, args)
@@ -194,14 +194,14 @@ pub fn call(world: World, number: u64, args: &[u64], store: &mut [u16]) -> Reply
         let answer = ask(world, g, number, args, store);
         return world::asked(world, answer);
     }
-    if g == 10 {
+    if g == 7 {
         let routing = world.routing;
         return routed(
             world,
             routing_groups::change_records(routing, number, args, store),
         );
     }
-    if g < 10 {
+    if g < 11 {
         let routing = world.routing;
         return routed(world, change_routing(routing, g, number, args));
     }

@@ -29,7 +29,7 @@ returns c =
     let e = found .group .ensures in
     let small = c .before .before .before .if1 .taken in
     let hit : ltb (groupOf n) 7 ≡ true = lt-ltb (groupOf n) 7 (omega (arith, e, small)) in
-    let kept : eqb (groupOf n) 10 ≡ false = ne-eqb (groupOf n) 10 (λ d. omega (arith, e, small, d)) in
+    let kept : eqb (groupOf n) 7 ≡ false = ne-eqb (groupOf n) 7 (λ d. omega (arith, e, small, d)) in
     (rw hit (c .asked .ensures ∙ rw (c .before .ask .ensures, e)), rw kept)
 
 change-records-requires : tie.Need-change-records-requires
@@ -50,7 +50,7 @@ returns-2 c =
     let e = found .group .ensures in
     let big = made .before .before .before .before .if1 .left in
     let miss : ltb (groupOf n) 7 ≡ false = le-ltb (groupOf n) 7 (omega (arith, e, big)) in
-    let hit : eqb (groupOf n) 10 ≡ true = eq-eqb (groupOf n) 10 (sym e ∙ made .before .before .before .if2 .taken) in
+    let hit : eqb (groupOf n) 7 ≡ true = eq-eqb (groupOf n) 7 (sym e ∙ made .before .before .before .if2 .taken) in
     (rw (miss, hit) (c .routed .ensures ∙ rw (made .change-records .ensures .0)), rw hit (made .change-records .ensures .1))
 
 change-routing-requires : tie.Need-change-routing-requires
@@ -69,8 +69,8 @@ returns-3 c =
     let big = tested .before .before .if1 .left in
     let small = tested .if3 .taken in
     let miss : ltb (groupOf n) 7 ≡ false = le-ltb (groupOf n) 7 (omega (arith, e, big)) in
-    let kept : eqb (groupOf n) 10 ≡ false = ne-eqb (groupOf n) 10 (λ d. omega (arith, e, small, d)) in
-    let hit : ltb (groupOf n) 10 ≡ true = lt-ltb (groupOf n) 10 (omega (arith, e, small)) in
+    let kept : eqb (groupOf n) 7 ≡ false = ne-eqb (groupOf n) 7 (λ d. tested .before .if2 .left (e ∙ d)) in
+    let hit : ltb (groupOf n) 11 ≡ true = lt-ltb (groupOf n) 11 (omega (arith, e, small)) in
     (rw (miss, kept, hit) (c .routed2 .ensures ∙ rw (c .before .change-routing .ensures, e)), rw kept)
 
 change-neighbors-requires : tie.Need-change-neighbors-requires
@@ -87,8 +87,8 @@ returns-4 c =
     let n = found .before .before .before .args .number in
     let e = found .group .ensures in
     let miss : ltb (groupOf n) 7 ≡ false = le-ltb (groupOf n) 7 (omega (arith, e, tested .before .before .before .if1 .left)) in
-    let kept : eqb (groupOf n) 10 ≡ false = ne-eqb (groupOf n) 10 (λ d. tested .before .before .if2 .left (e ∙ d)) in
-    let past : ltb (groupOf n) 10 ≡ false = le-ltb (groupOf n) 10 (omega (arith, e, tested .before .if3 .left)) in
+    let kept : eqb (groupOf n) 7 ≡ false = ne-eqb (groupOf n) 7 (λ d. tested .before .before .if2 .left (e ∙ d)) in
+    let past : ltb (groupOf n) 11 ≡ false = le-ltb (groupOf n) 11 (omega (arith, e, tested .before .if3 .left)) in
     let hit : ltb (groupOf n) 14 ≡ true = lt-ltb (groupOf n) 14 (omega (arith, e, tested .if4 .taken)) in
     (rw (miss, kept, past, hit) (c .neighboured .ensures ∙ rw (c .before .change-neighbors .ensures, e)), rw kept)
 
@@ -109,8 +109,8 @@ returns-5 c =
     let n = found .before .before .before .args .number in
     let e = found .group .ensures in
     let miss : ltb (groupOf n) 7 ≡ false = le-ltb (groupOf n) 7 (omega (arith, e, tested .before .before .before .if1 .left)) in
-    let kept : eqb (groupOf n) 10 ≡ false = ne-eqb (groupOf n) 10 (λ d. tested .before .before .if2 .left (e ∙ d)) in
-    let past : ltb (groupOf n) 10 ≡ false = le-ltb (groupOf n) 10 (omega (arith, e, tested .before .if3 .left)) in
+    let kept : eqb (groupOf n) 7 ≡ false = ne-eqb (groupOf n) 7 (λ d. tested .before .before .if2 .left (e ∙ d)) in
+    let past : ltb (groupOf n) 11 ≡ false = le-ltb (groupOf n) 11 (omega (arith, e, tested .before .if3 .left)) in
     let last : ltb (groupOf n) 14 ≡ false = le-ltb (groupOf n) 14 (omega (arith, e, tested .if4 .left)) in
     (rw (miss, kept, past, last) (c .asked2 .ensures ∙ rw (c .before .done .ensures, c .before .before .fresh .ensures)), rw kept)
 
