@@ -1,5 +1,7 @@
 // The benchmark's calls for Rust: a state of a size is filled, and every row of the inputs is a call on it.
 // Each hands back the sum of the answers, of the exported form or of the core form.
+pub mod decisions;
+pub mod links;
 
 #[no_mangle]
 pub extern "C" fn warpteasel_speed_request(size: u16, exported: bool, inputs: &[u64]) -> u64 {
@@ -67,11 +69,11 @@ pub extern "C" fn warpteasel_speed_route_query(
 
 #[no_mangle]
 pub extern "C" fn warpteasel_speed_link_status(size: u16, exported: bool, inputs: &[u64]) -> u64 {
-    let s = speed_links::filled_links(size);
+    let s = links::filled_links(size);
     if exported {
-        speed_links::links(s, inputs)
+        links::links(s, inputs)
     } else {
-        speed_links::links_core(s, inputs)
+        links::links_core(s, inputs)
     }
 }
 
@@ -85,10 +87,10 @@ pub extern "C" fn warpteasel_speed_decision(
 ) -> u64 {
     let r = speed_routes::filled(size);
     let s = speed_routes::records::filled_records(r, store, size);
-    let n = speed_links::decisions::filled_neighbors(size);
+    let n = decisions::filled_neighbors(size);
     if exported {
-        speed_links::decisions::decisions(s, n, store, inputs)
+        decisions::decisions(s, n, store, inputs)
     } else {
-        speed_links::decisions::decisions_core(s, n, store, inputs)
+        decisions::decisions_core(s, n, store, inputs)
     }
 }

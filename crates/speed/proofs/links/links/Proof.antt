@@ -1,8 +1,8 @@
 -- A row lies within the inputs. The measure is the rows left.
 use Prim.Native.Nat.{_-_}
 use borrow.Author.Needs.{needs}
-use Rattle.speed_links.proofs.links.Statement.{statement}
-use Rattle.speed_links.proofs.links.Tie as tie
+use Rattle.speed.proofs.links.links.Statement.{statement}
+use Rattle.speed.proofs.links.links.Tie as tie
 
 abbrev Inv-loop : tie.InvT-loop
 Inv-loop inputs c s₀ sum₀ n k₀ s sum k = Unit {0}

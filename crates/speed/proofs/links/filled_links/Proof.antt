@@ -1,8 +1,8 @@
 -- The measure is the neighbours left.
 use Prim.Native.Nat.{_-_}
 use borrow.Author.Needs.{needs}
-use Rattle.speed_links.proofs.filled_links.Statement.{statement}
-use Rattle.speed_links.proofs.filled_links.Tie as tie
+use Rattle.speed.proofs.links.filled_links.Statement.{statement}
+use Rattle.speed.proofs.links.filled_links.Tie as tie
 
 abbrev Inv-loop : tie.InvT-loop
 Inv-loop size c s₀ i₀ s i = Unit {0}

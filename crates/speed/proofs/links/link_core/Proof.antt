@@ -4,8 +4,8 @@ use Rattle.neighbors.specs.State.{WellFormed}
 use Rattle.children.specs.declared.NwkOutcome.{NwkOutcome}
 use Rattle.link_status.proofs.Kept.{on-link-status-formed}
 use borrow.Author.Needs.{needs}
-use Rattle.speed_links.proofs.link_core.Statement.{statement}
-use Rattle.speed_links.proofs.link_core.Tie as tie
+use Rattle.speed.proofs.links.link_core.Statement.{statement}
+use Rattle.speed.proofs.links.link_core.Tie as tie
 
 nwk-requires : tie.Need-nwk-requires
 nwk-requires c κs = search needs

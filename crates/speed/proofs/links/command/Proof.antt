@@ -3,9 +3,9 @@ use mathlib.Core.Bool.{true}
 use mathlib.Core.List.{[], _∷_}
 use borrow.Author.Needs.{needs}
 use Rattle.flat_map.specs.Rows.{pad}
-use Rattle.speed_links.specs.Command.{eightLinks}
-use Rattle.speed_links.proofs.command.Statement.{statement}
-use Rattle.speed_links.proofs.command.Tie as tie
+use Rattle.speed.specs.Command.{eightLinks}
+use Rattle.speed.proofs.links.command.Statement.{statement}
+use Rattle.speed.proofs.links.command.Tie as tie
 
 status-requires : tie.Need-status-requires
 status-requires c κs = search needs

@@ -2,8 +2,8 @@
 use Prim.Native.Nat.{_-_}
 use Rattle.neighbors.specs.State.{WellFormed}
 use borrow.Author.Needs.{needs}
-use Rattle.speed_links.proofs.links_held.Statement.{statement}
-use Rattle.speed_links.proofs.links_held.Tie as tie
+use Rattle.speed.proofs.links.links_held.Statement.{statement}
+use Rattle.speed.proofs.links.links_held.Tie as tie
 
 abbrev Inv-loop : tie.InvT-loop
 Inv-loop inputs c s₀ sum₀ n k₀ s sum k = WellFormed s

@@ -5,8 +5,8 @@ use Rattle.relay_store.proofs.Agree.{agrees-told}
 use Rattle.routing.proofs.State.{state-told}
 use Rattle.neighbors.proofs.Checked.{well-formed-told}
 use borrow.Author.Needs.{needs}
-use Rattle.speed_links.proofs.decisions.decisions_core.Statement.{statement}
-use Rattle.speed_links.proofs.decisions.decisions_core.Tie as tie
+use Rattle.speed.proofs.decisions.decisions_core.Statement.{statement}
+use Rattle.speed.proofs.decisions.decisions_core.Tie as tie
 
 well-formed-requires : tie.Need-well-formed-requires
 well-formed-requires c κs = search needs

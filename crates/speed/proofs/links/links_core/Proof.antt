@@ -3,8 +3,8 @@ use mathlib.Core.Path.{sym, _∙_}
 use borrow.Author.Tests.{not-false}
 use Rattle.neighbors.proofs.Checked.{well-formed-told}
 use borrow.Author.Needs.{needs}
-use Rattle.speed_links.proofs.links_core.Statement.{statement}
-use Rattle.speed_links.proofs.links_core.Tie as tie
+use Rattle.speed.proofs.links.links_core.Statement.{statement}
+use Rattle.speed.proofs.links.links_core.Tie as tie
 
 well-formed-requires : tie.Need-well-formed-requires
 well-formed-requires c κs = search needs

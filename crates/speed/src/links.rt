@@ -1,7 +1,5 @@
 // What the benchmark runs of the link statuses: many calls on one state, in the exported form and in the core form.
 // A row of the inputs is eight numbers. The answers are added up, so that they can be compared with the Rust's.
-pub mod decisions;
-
 use link_status::LinkStatusCommand;
 use neighbor_queries::LinkStatus;
 use neighbors::Neighbors;
@@ -10,7 +8,7 @@ use types::Eui64;
 use types::Nwk;
 ghost use mathlib.Core.Path.{_≡_};
 ghost use Rattle.neighbors.specs.State.{WellFormed};
-ghost use Rattle.speed_links.specs.Command.{linkTo, eightLinks};
+ghost use Rattle.speed.specs.Command.{linkTo, eightLinks};
 
 // The state after a call, and what its answer adds to the sum.
 pub struct LinkTurn {

@@ -42,7 +42,7 @@ fn with_child(state: Neighbors, address: u16) -> Outcome {
 
 // The neighbours 1 .. size: routers, and among them an end device child at each odd address.
 pub fn filled_neighbors(size: u16) -> Neighbors {
-    let mut s = crate::filled_links(size);
+    let mut s = crate::links::filled_links(size);
     let half = size / 2;
     let mut i: u16 = 0;
     while i < half {

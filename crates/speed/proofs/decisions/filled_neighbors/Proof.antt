@@ -1,8 +1,8 @@
 -- The measure is the children left.
 use Prim.Native.Nat.{_-_}
 use borrow.Author.Needs.{needs}
-use Rattle.speed_links.proofs.decisions.filled_neighbors.Statement.{statement}
-use Rattle.speed_links.proofs.decisions.filled_neighbors.Tie as tie
+use Rattle.speed.proofs.decisions.filled_neighbors.Statement.{statement}
+use Rattle.speed.proofs.decisions.filled_neighbors.Tie as tie
 
 abbrev Inv-loop : tie.InvT-loop
 Inv-loop size s₀ half i₀ s i = Unit {0}
