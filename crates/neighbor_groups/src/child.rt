@@ -8,6 +8,7 @@ use parent_annce::Announced;
 ghost use mathlib.Core.Path.{_≡_};
 ghost use Rattle.neighbor_groups.specs.Child.{truthReply, nwkReply, removalReply, announcedReply, refreshChildTimeoutCall, setChildTimeoutCall, takeChildCall, removeClaimedChildrenCall, processParentAnnceCall, evictTimedOutChildrenCall, upsertChildCall, onLinkStatusCall};
 
+// Yes or no, and the state after it.
 fn truth_reply(outcome: TruthOutcome) -> NeighborsReply
     ensures { λ r. ⌜ r ≡ truthReply outcome ⌝ }
 {
@@ -20,6 +21,7 @@ fn truth_reply(outcome: TruthOutcome) -> NeighborsReply
     }
 }
 
+// A network address where there is one, and the state after it.
 fn nwk_reply(outcome: NwkOutcome) -> NeighborsReply
     ensures { λ r. ⌜ r ≡ nwkReply outcome ⌝ }
 {
@@ -32,6 +34,7 @@ fn nwk_reply(outcome: NwkOutcome) -> NeighborsReply
     }
 }
 
+// The children that were removed, and the state after it.
 fn removal_reply(outcome: Removal) -> NeighborsReply
     ensures { λ r. ⌜ r ≡ removalReply outcome ⌝ }
 {
@@ -45,6 +48,7 @@ fn removal_reply(outcome: Removal) -> NeighborsReply
     }
 }
 
+// The children that are claimed back, those that were removed, and the state after it.
 fn announced_reply(outcome: Announced) -> NeighborsReply
     ensures { λ r. ⌜ r ≡ announcedReply outcome ⌝ }
 {
