@@ -7,7 +7,7 @@ use lib.Dec.{eqb}
 use Rattle.numbers.specs.Said.{Said, bad}
 use Rattle.neighbors.specs.declared.Neighbors.{Neighbors}
 use Rattle.neighbor_loads.specs.declared.NeighborsReply.{NeighborsReply}
-use Rattle.neighbor_loads.specs.Loads.{unloaded, putNeighbor, putWaiting, setNeighborCount, setWaitingCount, setNeighborKey, setWaitingKey}
+use Rattle.neighbor_loads.specs.Loads.{noCall, putNeighbor, putWaiting, setNeighborCount, setWaitingCount, setNeighborKey, setWaitingKey}
 use Rattle.neighbor_groups.specs.Queries.{lqiToLinkCostCall, linkCall, neighbourCountCall, neighbourAtCall, hasNetworkAddressCall, endDeviceChildEui64Call, sleepyChildEui64Call, containsCall, deviceCapabilityCall, endDeviceChildCountCall, isUnconfirmedEndDeviceChildCall, nextChildTimeoutCall, anyLiveRouterLinkCall}
 use Rattle.neighbor_groups.specs.Lists.{lqaCall, incomingLinkCostCall, isChildCall, sleepyChildrenCall, endDeviceChildrenCall, expectedBroadcastRelayersCall, linkStatusEntriesCall}
 use Rattle.neighbor_groups.specs.Events.{recordLqaCall, updateNetworkAddressCall, removeCall, recordOutboundActivityCall, recordInboundActivityCall, recordTransmitFailureCall, resetTransmitFailuresCall}
@@ -58,7 +58,7 @@ noteNeighbors s n args =
     (cond (eqb n 64) (recordInboundActivityCall s args)
     (cond (eqb n 65) (recordTransmitFailureCall s args)
     (cond (eqb n 66) (resetTransmitFailuresCall s args)
-    (unloaded s)))))))
+    (noCall s)))))))
 
 -- The calls that change the children.
 unfoldable pub changeChildren : Neighbors → ℕ → List ℕ → NeighborsReply
@@ -71,7 +71,7 @@ changeChildren s n args =
     (cond (eqb n 56) (evictTimedOutChildrenCall s args)
     (cond (eqb n 58) (upsertChildCall s args)
     (cond (eqb n 67) (onLinkStatusCall s args)
-    (unloaded s))))))))
+    (noCall s))))))))
 
 -- The lines that set the neighbours up, and those that damage them.
 unfoldable pub loadNeighbors : Neighbors → ℕ → List ℕ → NeighborsReply
@@ -82,4 +82,4 @@ loadNeighbors s n args =
     (cond (eqb n 79) (setWaitingCount s args)
     (cond (eqb n 83) (setNeighborKey s args)
     (cond (eqb n 84) (setWaitingKey s args)
-    (unloaded s))))))
+    (noCall s))))))

@@ -117,7 +117,7 @@ pub fn note_neighbors(state: Neighbors, number: u64, args: &[u64]) -> NeighborsR
     if number == 66 {
         return events::reset_transmit_failures(state, args);
     }
-    neighbor_loads::unload(state)
+    neighbor_loads::no_call(state)
 }
 
 // The calls that change the children.
@@ -148,7 +148,7 @@ pub fn change_children(state: Neighbors, number: u64, args: &[u64]) -> Neighbors
     if number == 67 {
         return child::on_link_status(state, args);
     }
-    neighbor_loads::unload(state)
+    neighbor_loads::no_call(state)
 }
 
 // The lines that set the neighbours up, and those that damage them.
@@ -173,5 +173,5 @@ pub fn load_neighbors(state: Neighbors, number: u64, args: &[u64]) -> NeighborsR
     if number == 84 {
         return neighbor_loads::set_waiting_key(state, args);
     }
-    neighbor_loads::unload(state)
+    neighbor_loads::no_call(state)
 }

@@ -29,8 +29,8 @@ replied s said = record { answer = spoken said; state = s }
 abbrev pub loaded : Neighbors → NeighborsReply
 loaded s = replied s (ok [])
 
-abbrev pub unloaded : Neighbors → NeighborsReply
-unloaded s = replied s bad
+abbrev pub noCall : Neighbors → NeighborsReply
+noCall s = replied s bad
 
 -- the state with one of its tables replaced
 abbrev pub withNeighbors : Neighbors → NeighborTable → Neighbors
@@ -45,8 +45,8 @@ neighborPut e s =
     cond (neighbours.formed64 (s .table))
     (cond (leb (countWith neighborKey (neighborKey e) (neighbours.rowsOf (s .table))) 64)
     (loaded (withNeighbors s (neighbours.tableOf (put neighborKey e (neighbours.rowsOf (s .table))))))
-    (unloaded s))
-    (unloaded s)
+    (noCall s))
+    (noCall s)
 
 unfoldable pub putNeighbor : Neighbors → List ℕ → NeighborsReply
 putNeighbor s args = neighborPut (neighborAt args 0) s
@@ -58,7 +58,7 @@ setNeighborCount s args = loaded (withNeighbors s (record { keys = s .table .key
 unfoldable pub setNeighborKey : Neighbors → List ℕ → NeighborsReply
 setNeighborKey s args =
     cond (leb 64 (numberAt args 0))
-    (unloaded s)
+    (noCall s)
     (loaded (withNeighbors s (record { keys = set (s .table .keys) (numberAt args 0) (numberAt args 1); entries = s .table .entries; count = s .table .count })))
 
 -- an entry under its key, over the one that is there or in a free place
@@ -67,8 +67,8 @@ waitingPut e s =
     cond (senders.formed64 (s .«pending_lqas»))
     (cond (leb (countWith waitingKey (waitingKey e) (senders.rowsOf (s .«pending_lqas»))) 64)
     (loaded (withWaiting s (senders.tableOf (put waitingKey e (senders.rowsOf (s .«pending_lqas»))))))
-    (unloaded s))
-    (unloaded s)
+    (noCall s))
+    (noCall s)
 
 unfoldable pub putWaiting : Neighbors → List ℕ → NeighborsReply
 putWaiting s args = waitingPut (waitingEntryAt args 0) s
@@ -80,5 +80,5 @@ setWaitingCount s args = loaded (withWaiting s (record { keys = s .«pending_lqa
 unfoldable pub setWaitingKey : Neighbors → List ℕ → NeighborsReply
 setWaitingKey s args =
     cond (leb 64 (numberAt args 0))
-    (unloaded s)
+    (noCall s)
     (loaded (withWaiting s (record { keys = set (s .«pending_lqas» .keys) (numberAt args 0) (numberAt args 1); entries = s .«pending_lqas» .entries; count = s .«pending_lqas» .count })))

@@ -9,7 +9,7 @@ use numbers::Answer;
 use waiting_table::WaitingEntry;
 use waiting_table::WaitingTable;
 ghost use mathlib.Core.Path.{_≡_};
-ghost use Rattle.neighbor_loads.specs.Loads.{loaded, unloaded, withNeighbors, withWaiting, neighborPut, putNeighbor, waitingPut, putWaiting, setNeighborCount, setNeighborKey, setWaitingCount, setWaitingKey};
+ghost use Rattle.neighbor_loads.specs.Loads.{loaded, noCall, withNeighbors, withWaiting, neighborPut, putNeighbor, waitingPut, putWaiting, setNeighborCount, setNeighborKey, setWaitingCount, setWaitingKey};
 
 // What a call on the neighbours is answered, and the state after it.
 pub struct NeighborsReply {
@@ -26,8 +26,8 @@ fn load(s: Neighbors) -> NeighborsReply
 }
 
 // The line is no call on this state, which stays.
-pub fn unload(s: Neighbors) -> NeighborsReply
-    ensures { λ r. ⌜ r ≡ unloaded s ⌝ }
+pub fn no_call(s: Neighbors) -> NeighborsReply
+    ensures { λ r. ⌜ r ≡ noCall s ⌝ }
 {
     let answer = numbers::no_call();
     NeighborsReply { answer, state: s }
@@ -48,11 +48,11 @@ fn load_neighbor(s: Neighbors, e: NeighborEntry) -> NeighborsReply
 {
     let t = s.table;
     if !neighbor_table::formed(t) {
-        return unload(s);
+        return no_call(s);
     }
     let key = e.extended_address;
     if !neighbor_table::has_room(t, key) {
-        return unload(s);
+        return no_call(s);
     }
     let u = neighbor_table::put(t, e);
     let x = with_neighbor_table(s, u);
@@ -85,7 +85,7 @@ pub fn set_neighbor_key(s: Neighbors, args: &[u64]) -> NeighborsReply
     let i = numbers::at(args, 0) as usize;
     let k = numbers::at(args, 1);
     if 64 <= i {
-        return unload(s);
+        return no_call(s);
     }
     let mut t = s.table;
     t.keys[i] = k;
@@ -108,11 +108,11 @@ fn load_waiting(s: Neighbors, e: WaitingEntry) -> NeighborsReply
 {
     let t = s.pending_lqas;
     if !waiting_table::formed(t) {
-        return unload(s);
+        return no_call(s);
     }
     let key = e.network_address;
     if !waiting_table::has_room(t, key) {
-        return unload(s);
+        return no_call(s);
     }
     let u = waiting_table::put(t, e);
     let x = with_waiting_table(s, u);
@@ -145,7 +145,7 @@ pub fn set_waiting_key(s: Neighbors, args: &[u64]) -> NeighborsReply
     let i = numbers::at(args, 0) as usize;
     let k = numbers::at(args, 1);
     if 64 <= i {
-        return unload(s);
+        return no_call(s);
     }
     let mut t = s.pending_lqas;
     t.keys[i] = k;

@@ -38,8 +38,8 @@ replied s said = record { answer = spoken said; state = s }
 abbrev pub loaded : Routing → RoutingReply
 loaded s = replied s (ok [])
 
-abbrev pub unloaded : Routing → RoutingReply
-unloaded s = replied s bad
+abbrev pub noCall : Routing → RoutingReply
+noCall s = replied s bad
 
 abbrev pub listTooLong : Routing → RoutingReply
 listTooLong s = replied s (refusedBy ListTooLong)
@@ -72,8 +72,8 @@ routePut e s =
     cond (routes.wellFormed (s .«route_table»))
     (cond (leb (countWith routeKey (routeKey e) (routes.rowsOf (s .«route_table»))) 64)
     (loaded (withRoutes s (routes.tableOf (put routeKey e (routes.rowsOf (s .«route_table»))))))
-    (unloaded s))
-    (unloaded s)
+    (noCall s))
+    (noCall s)
 
 unfoldable pub putRoute : Routing → List ℕ → RoutingReply
 putRoute s args = routePut (routeAt args 0) s
@@ -84,8 +84,8 @@ discoveryPut e s =
     cond (discoveries.wellFormed (s .«discovery_table»))
     (cond (leb (countWith discoveryKey (discoveryKey e) (discoveries.rowsOf (s .«discovery_table»))) 32)
     (loaded (withDiscoveries s (discoveries.tableOf (put discoveryKey e (discoveries.rowsOf (s .«discovery_table»))))))
-    (unloaded s))
-    (unloaded s)
+    (noCall s))
+    (noCall s)
 
 unfoldable pub putDiscovery : Routing → List ℕ → RoutingReply
 putDiscovery s args = discoveryPut (discoveryAt args 0) s
@@ -103,9 +103,9 @@ recordPut destination l s store =
     (cond (agrees (s .«route_record_table») store)
     (cond (leb (countWith recordKey (destination .0) (records.rowsOf (s .«route_record_table»))) 64)
     (loaded (withRecords s (recordTablePut destination l (s .«route_record_table»))))
-    (unloaded s))
-    (unloaded s))
-    (unloaded s)
+    (noCall s))
+    (noCall s))
+    (noCall s)
 
 unfoldable pub recordPutStore : Nwk → RelayList → Routing → List ℕ → List ℕ
 recordPutStore destination l s store =
@@ -128,7 +128,7 @@ setRouteCount s args = loaded (withRoutes s (record { keys = s .«route_table» 
 unfoldable pub setRouteKey : Routing → List ℕ → RoutingReply
 setRouteKey s args =
     cond (leb 64 (numberAt args 0))
-    (unloaded s)
+    (noCall s)
     (loaded (withRoutes s (record { keys = set (s .«route_table» .keys) (numberAt args 0) (numberAt args 1); entries = s .«route_table» .entries; count = s .«route_table» .count })))
 
 unfoldable pub setDiscoveryCount : Routing → List ℕ → RoutingReply
@@ -137,7 +137,7 @@ setDiscoveryCount s args = loaded (withDiscoveries s (record { keys = s .«disco
 unfoldable pub setDiscoveryKey : Routing → List ℕ → RoutingReply
 setDiscoveryKey s args =
     cond (leb 32 (numberAt args 0))
-    (unloaded s)
+    (noCall s)
     (loaded (withDiscoveries s (record { keys = set (s .«discovery_table» .keys) (numberAt args 0) (numberAt args 1); entries = s .«discovery_table» .entries; count = s .«discovery_table» .count })))
 
 unfoldable pub setRecordCount : Routing → List ℕ → RoutingReply
@@ -146,5 +146,5 @@ setRecordCount s args = loaded (withRecords s (record { keys = s .«route_record
 unfoldable pub setRecordKey : Routing → List ℕ → RoutingReply
 setRecordKey s args =
     cond (leb 64 (numberAt args 0))
-    (unloaded s)
+    (noCall s)
     (loaded (withRecords s (record { keys = set (s .«route_record_table» .keys) (numberAt args 0) (numberAt args 1); entries = s .«route_record_table» .entries; count = s .«route_record_table» .count })))

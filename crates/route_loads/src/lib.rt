@@ -20,7 +20,7 @@ ghost use Rattle.standard.specs.Record.{recordKey};
 ghost use Rattle.record_table.specs.Table.{WellFormed, rowsOf};
 ghost use Rattle.routing.specs.Routes.{withRoutes};
 ghost use Rattle.routing.specs.Records.{withRecords};
-ghost use Rattle.route_loads.specs.Loads.{loaded, unloaded, listTooLong, withDiscoveries, putCounters, routePut, putRoute, discoveryPut, putDiscovery, recordTablePut, recordRowPut, recordPut, recordPutStore, putRecord, putRecordStore, setRouteCount, setRouteKey, setDiscoveryCount, setDiscoveryKey, setRecordCount, setRecordKey};
+ghost use Rattle.route_loads.specs.Loads.{loaded, noCall, listTooLong, withDiscoveries, putCounters, routePut, putRoute, discoveryPut, putDiscovery, recordTablePut, recordRowPut, recordPut, recordPutStore, putRecord, putRecordStore, setRouteCount, setRouteKey, setDiscoveryCount, setDiscoveryKey, setRecordCount, setRecordKey};
 
 // What a call on the routing state is answered, and the state after it.
 pub struct RoutingReply {
@@ -37,8 +37,8 @@ fn load(s: Routing) -> RoutingReply
 }
 
 // The line is no call on this state, which stays.
-pub fn unload(s: Routing) -> RoutingReply
-    ensures { λ r. ⌜ r ≡ unloaded s ⌝ }
+pub fn no_call(s: Routing) -> RoutingReply
+    ensures { λ r. ⌜ r ≡ noCall s ⌝ }
 {
     let answer = numbers::no_call();
     RoutingReply { answer, state: s }
@@ -99,11 +99,11 @@ fn load_route(s: Routing, e: RouteEntry) -> RoutingReply
 {
     let t = s.route_table;
     if !route_table::well_formed(t) {
-        return unload(s);
+        return no_call(s);
     }
     let d = e.destination;
     if !route_table::has_room(t, d) {
-        return unload(s);
+        return no_call(s);
     }
     let u = route_table::put(t, e);
     let x = with_route_table(s, u);
@@ -124,11 +124,11 @@ fn load_discovery(s: Routing, e: DiscoveryEntry) -> RoutingReply
 {
     let t = s.discovery_table;
     if !discovery_table::well_formed(t) {
-        return unload(s);
+        return no_call(s);
     }
     let d = e.source_address;
     if !discovery_table::has_room(t, d, e.route_request_id) {
-        return unload(s);
+        return no_call(s);
     }
     let u = discovery_table::put(t, e);
     let x = with_discovery_table(s, u);
@@ -168,13 +168,13 @@ fn load_record(s: Routing, store: &mut [u16], destination: Nwk, l: RelayList) ->
 {
     let t = s.route_record_table;
     if !record_table::well_formed(t) {
-        return unload(s);
+        return no_call(s);
     }
     if !relay_store::agrees(t, store) {
-        return unload(s);
+        return no_call(s);
     }
     if !record_table::has_room(t, destination) {
-        return unload(s);
+        return no_call(s);
     }
     let u = write_record(t, store, destination, l);
     let x = with_record_table(s, u);
@@ -212,7 +212,7 @@ pub fn set_route_key(s: Routing, args: &[u64]) -> RoutingReply
     let i = numbers::at(args, 0) as usize;
     let k = numbers::at(args, 1);
     if 64 <= i {
-        return unload(s);
+        return no_call(s);
     }
     let mut t = s.route_table;
     t.keys[i] = k;
@@ -238,7 +238,7 @@ pub fn set_discovery_key(s: Routing, args: &[u64]) -> RoutingReply
     let i = numbers::at(args, 0) as usize;
     let k = numbers::at(args, 1);
     if 32 <= i {
-        return unload(s);
+        return no_call(s);
     }
     let mut t = s.discovery_table;
     t.keys[i] = k;
@@ -264,7 +264,7 @@ pub fn set_record_key(s: Routing, args: &[u64]) -> RoutingReply
     let i = numbers::at(args, 0) as usize;
     let k = numbers::at(args, 1);
     if 64 <= i {
-        return unload(s);
+        return no_call(s);
     }
     let mut t = s.route_record_table;
     t.keys[i] = k;

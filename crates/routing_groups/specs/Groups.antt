@@ -7,7 +7,7 @@ use lib.Dec.{eqb}
 use Rattle.numbers.specs.Said.{Said, bad}
 use Rattle.routing.specs.declared.Routing.{Routing}
 use Rattle.route_loads.specs.declared.RoutingReply.{RoutingReply}
-use Rattle.route_loads.specs.Loads.{unloaded, putCounters, putRoute, putDiscovery, setRouteCount, setDiscoveryCount, setRecordCount, setRouteKey, setDiscoveryKey, setRecordKey, putRecord, putRecordStore}
+use Rattle.route_loads.specs.Loads.{noCall, putCounters, putRoute, putDiscovery, setRouteCount, setDiscoveryCount, setRecordCount, setRouteKey, setDiscoveryKey, setRecordKey, putRecord, putRecordStore}
 use Rattle.routing_groups.specs.Asked.{checkCall, routeStatusCall, routeCountCall, routeAtCall, nextHopCall, discoveryDeadlineCall, discoveryCountCall, discoveryAtCall, recordCountCall}
 use Rattle.routing_groups.specs.Changed.{noteRouteErrorCall, noteDeliveryFailureCall, resetMtorrTriggersCall, markDiscoveryFailedCall, recordUsageCall, decayActivityCall, invalidateViaCall, removeRouteCall, restoreRouteCall, noteSourceRoutedFrameCall, noteRelayedDiscoveryCall, beginDiscoveryCall, beginManyToOneAdvertisementCall, acceptRouteRequestCall, acceptRouteReplyCall}
 use Rattle.routing_groups.specs.Recorded.{storeRouteRecordCall, storeRouteRecordStore, removeRouteRecordCall, removeRouteRecordStore, routeToCall, routeToDefaultCall, recordAtCall}
@@ -45,7 +45,7 @@ changeRoutes s n args =
     (cond (eqb n 18) (decayActivityCall s)
     (cond (eqb n 19) (invalidateViaCall s args)
     (cond (eqb n 20) (removeRouteCall s args)
-    (unloaded s))))))))
+    (noCall s))))))))
 
 -- The calls that make routes and searches.
 unfoldable pub changeSearches : Routing → ℕ → List ℕ → RoutingReply
@@ -57,7 +57,7 @@ changeSearches s n args =
     (cond (eqb n 30) (beginManyToOneAdvertisementCall s args)
     (cond (eqb n 31) (acceptRouteRequestCall s args)
     (cond (eqb n 32) (acceptRouteReplyCall s args)
-    (unloaded s)))))))
+    (noCall s)))))))
 
 -- The lines that set the routing state up, and those that damage it.
 unfoldable pub loadRoutes : Routing → ℕ → List ℕ → RoutingReply
@@ -71,7 +71,7 @@ loadRoutes s n args =
     (cond (eqb n 80) (setRouteKey s args)
     (cond (eqb n 81) (setDiscoveryKey s args)
     (cond (eqb n 82) (setRecordKey s args)
-    (unloaded s)))))))))
+    (noCall s)))))))))
 
 -- The calls that change the route records, and the store after them.
 unfoldable pub changeRecords : Routing → ℕ → List ℕ → List ℕ → RoutingReply
@@ -79,7 +79,7 @@ changeRecords s n args store =
     cond (eqb n 6) (putRecord s args store)
     (cond (eqb n 22) (storeRouteRecordCall s args store)
     (cond (eqb n 23) (removeRouteRecordCall s args store)
-    (unloaded s)))
+    (noCall s)))
 
 unfoldable pub storeAfter : Routing → ℕ → List ℕ → List ℕ → List ℕ
 storeAfter s n args store = cond (eqb n 6) (putRecordStore s args store) (cond (eqb n 22) (storeRouteRecordStore s args store) (cond (eqb n 23) (removeRouteRecordStore s args store) store))

@@ -88,7 +88,7 @@ pub fn change_routes(routing: Routing, number: u64, args: &[u64]) -> RoutingRepl
     if number == 20 {
         return changes::remove_route(routing, args);
     }
-    route_loads::unload(routing)
+    route_loads::no_call(routing)
 }
 
 // The calls that make routes and searches.
@@ -116,7 +116,7 @@ pub fn change_searches(routing: Routing, number: u64, args: &[u64]) -> RoutingRe
     if number == 32 {
         return changes::accept_route_reply(routing, args);
     }
-    route_loads::unload(routing)
+    route_loads::no_call(routing)
 }
 
 // The lines that set the routing state up, and those that damage it.
@@ -150,7 +150,7 @@ pub fn load_routes(routing: Routing, number: u64, args: &[u64]) -> RoutingReply
     if number == 82 {
         return route_loads::set_record_key(routing, args);
     }
-    route_loads::unload(routing)
+    route_loads::no_call(routing)
 }
 
 // The calls that change the route records and the store that they are kept in.
@@ -172,5 +172,5 @@ pub fn change_records(
     if number == 23 {
         return records::remove_route_record(routing, args, store);
     }
-    route_loads::unload(routing)
+    route_loads::no_call(routing)
 }

@@ -61,12 +61,12 @@ returns-8 : tie.Need-returns-8
 unfolding changeChildren
 returns-8 c = rw (ne-eqb _ _ (c .before .before .before .before .before .before .before .before .if1 .left), ne-eqb _ _ (c .before .before .before .before .before .before .before .if2 .left), ne-eqb _ _ (c .before .before .before .before .before .before .if3 .left), ne-eqb _ _ (c .before .before .before .before .before .if4 .left), ne-eqb _ _ (c .before .before .before .before .if5 .left), ne-eqb _ _ (c .before .before .before .if6 .left), ne-eqb _ _ (c .before .before .if7 .left), eq-eqb _ _ (c .before .if8 .taken)) (c .on-link-status .ensures)
 
-unload-requires : tie.Need-unload-requires
-unload-requires c κs = search needs
+no-call-requires : tie.Need-no-call-requires
+no-call-requires c κs = search needs
 
 returns-9 : tie.Need-returns-9
 unfolding changeChildren
-returns-9 c = rw (ne-eqb _ _ (c .before .before .before .before .before .before .before .before .if1 .left), ne-eqb _ _ (c .before .before .before .before .before .before .before .if2 .left), ne-eqb _ _ (c .before .before .before .before .before .before .if3 .left), ne-eqb _ _ (c .before .before .before .before .before .if4 .left), ne-eqb _ _ (c .before .before .before .before .if5 .left), ne-eqb _ _ (c .before .before .before .if6 .left), ne-eqb _ _ (c .before .before .if7 .left), ne-eqb _ _ (c .before .if8 .left)) (c .unload .ensures)
+returns-9 c = rw (ne-eqb _ _ (c .before .before .before .before .before .before .before .before .if1 .left), ne-eqb _ _ (c .before .before .before .before .before .before .before .if2 .left), ne-eqb _ _ (c .before .before .before .before .before .before .if3 .left), ne-eqb _ _ (c .before .before .before .before .before .if4 .left), ne-eqb _ _ (c .before .before .before .before .if5 .left), ne-eqb _ _ (c .before .before .before .if6 .left), ne-eqb _ _ (c .before .before .if7 .left), ne-eqb _ _ (c .before .if8 .left)) (c .no-call .ensures)
 
 pub change-children-spec : {M : Type 1} → statement M
-change-children-spec = tie.close (tie.spec refresh-child-timeout-requires returns set-child-timeout-requires returns-2 take-child-requires returns-3 remove-claimed-children-requires returns-4 process-parent-annce-requires returns-5 evict-timed-out-children-requires returns-6 upsert-child-requires returns-7 on-link-status-requires returns-8 unload-requires returns-9)
+change-children-spec = tie.close (tie.spec refresh-child-timeout-requires returns set-child-timeout-requires returns-2 take-child-requires returns-3 remove-claimed-children-requires returns-4 process-parent-annce-requires returns-5 evict-timed-out-children-requires returns-6 upsert-child-requires returns-7 on-link-status-requires returns-8 no-call-requires returns-9)

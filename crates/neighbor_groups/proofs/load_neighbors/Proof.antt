@@ -47,12 +47,12 @@ returns-6 : tie.Need-returns-6
 unfolding loadNeighbors
 returns-6 c = rw (ne-eqb _ _ (c .before .before .before .before .before .before .if1 .left), ne-eqb _ _ (c .before .before .before .before .before .if2 .left), ne-eqb _ _ (c .before .before .before .before .if3 .left), ne-eqb _ _ (c .before .before .before .if4 .left), ne-eqb _ _ (c .before .before .if5 .left), eq-eqb _ _ (c .before .if6 .taken)) (c .set-waiting-key .ensures)
 
-unload-requires : tie.Need-unload-requires
-unload-requires c κs = search needs
+no-call-requires : tie.Need-no-call-requires
+no-call-requires c κs = search needs
 
 returns-7 : tie.Need-returns-7
 unfolding loadNeighbors
-returns-7 c = rw (ne-eqb _ _ (c .before .before .before .before .before .before .if1 .left), ne-eqb _ _ (c .before .before .before .before .before .if2 .left), ne-eqb _ _ (c .before .before .before .before .if3 .left), ne-eqb _ _ (c .before .before .before .if4 .left), ne-eqb _ _ (c .before .before .if5 .left), ne-eqb _ _ (c .before .if6 .left)) (c .unload .ensures)
+returns-7 c = rw (ne-eqb _ _ (c .before .before .before .before .before .before .if1 .left), ne-eqb _ _ (c .before .before .before .before .before .if2 .left), ne-eqb _ _ (c .before .before .before .before .if3 .left), ne-eqb _ _ (c .before .before .before .if4 .left), ne-eqb _ _ (c .before .before .if5 .left), ne-eqb _ _ (c .before .if6 .left)) (c .no-call .ensures)
 
 pub load-neighbors-spec : {M : Type 1} → statement M
-load-neighbors-spec = tie.close (tie.spec put-neighbor-requires returns put-waiting-requires returns-2 set-neighbor-count-requires returns-3 set-waiting-count-requires returns-4 set-neighbor-key-requires returns-5 set-waiting-key-requires returns-6 unload-requires returns-7)
+load-neighbors-spec = tie.close (tie.spec put-neighbor-requires returns put-waiting-requires returns-2 set-neighbor-count-requires returns-3 set-waiting-count-requires returns-4 set-neighbor-key-requires returns-5 set-waiting-key-requires returns-6 no-call-requires returns-7)

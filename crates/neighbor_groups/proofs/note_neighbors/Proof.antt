@@ -54,12 +54,12 @@ returns-7 : tie.Need-returns-7
 unfolding noteNeighbors
 returns-7 c = rw (ne-eqb _ _ (c .before .before .before .before .before .before .before .if1 .left), ne-eqb _ _ (c .before .before .before .before .before .before .if2 .left), ne-eqb _ _ (c .before .before .before .before .before .if3 .left), ne-eqb _ _ (c .before .before .before .before .if4 .left), ne-eqb _ _ (c .before .before .before .if5 .left), ne-eqb _ _ (c .before .before .if6 .left), eq-eqb _ _ (c .before .if7 .taken)) (c .reset-transmit-failures .ensures)
 
-unload-requires : tie.Need-unload-requires
-unload-requires c κs = search needs
+no-call-requires : tie.Need-no-call-requires
+no-call-requires c κs = search needs
 
 returns-8 : tie.Need-returns-8
 unfolding noteNeighbors
-returns-8 c = rw (ne-eqb _ _ (c .before .before .before .before .before .before .before .if1 .left), ne-eqb _ _ (c .before .before .before .before .before .before .if2 .left), ne-eqb _ _ (c .before .before .before .before .before .if3 .left), ne-eqb _ _ (c .before .before .before .before .if4 .left), ne-eqb _ _ (c .before .before .before .if5 .left), ne-eqb _ _ (c .before .before .if6 .left), ne-eqb _ _ (c .before .if7 .left)) (c .unload .ensures)
+returns-8 c = rw (ne-eqb _ _ (c .before .before .before .before .before .before .before .if1 .left), ne-eqb _ _ (c .before .before .before .before .before .before .if2 .left), ne-eqb _ _ (c .before .before .before .before .before .if3 .left), ne-eqb _ _ (c .before .before .before .before .if4 .left), ne-eqb _ _ (c .before .before .before .if5 .left), ne-eqb _ _ (c .before .before .if6 .left), ne-eqb _ _ (c .before .if7 .left)) (c .no-call .ensures)
 
 pub note-neighbors-spec : {M : Type 1} → statement M
-note-neighbors-spec = tie.close (tie.spec record-lqa-requires returns update-network-address-requires returns-2 remove-requires returns-3 record-outbound-activity-requires returns-4 record-inbound-activity-requires returns-5 record-transmit-failure-requires returns-6 reset-transmit-failures-requires returns-7 unload-requires returns-8)
+note-neighbors-spec = tie.close (tie.spec record-lqa-requires returns update-network-address-requires returns-2 remove-requires returns-3 record-outbound-activity-requires returns-4 record-inbound-activity-requires returns-5 record-transmit-failure-requires returns-6 reset-transmit-failures-requires returns-7 no-call-requires returns-8)

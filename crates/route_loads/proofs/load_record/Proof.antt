@@ -11,20 +11,20 @@ use Rattle.route_loads.proofs.load_record.Tie as tie
 well-formed-requires : tie.Need-well-formed-requires
 well-formed-requires c κs = search needs
 
-unload-requires : tie.Need-unload-requires
-unload-requires c κs = search needs
+no-call-requires : tie.Need-no-call-requires
+no-call-requires c κs = search needs
 
 returns : tie.Need-returns
 unfolding recordPut recordPutStore
 returns c =
     let good = sym (c .before .before .well-formed .ensures) ∙ not-true _ (c .before .if1 .taken) in
-    (rw good (c .unload .ensures), rw good)
+    (rw good (c .no-call .ensures), rw good)
 
 agrees-requires : tie.Need-agrees-requires
 agrees-requires c κs = search needs
 
-unload-requires-2 : tie.Need-unload-requires-2
-unload-requires-2 c κs = search needs
+no-call-requires-2 : tie.Need-no-call-requires-2
+no-call-requires-2 c κs = search needs
 
 same-length : tie.Need-same-length
 same-length c = search needs
@@ -34,13 +34,13 @@ unfolding recordPut recordPutStore
 returns-2 c =
     let good = sym (c .before .before .before .before .before .well-formed .ensures) ∙ not-false _ (c .before .before .before .before .if1 .left) in
     let fit = sym (c .before .before .agrees .ensures) ∙ not-true _ (c .before .if2 .taken) in
-    (rw (good, fit) (c .unload2 .ensures), rw (good, fit))
+    (rw (good, fit) (c .no-call2 .ensures), rw (good, fit))
 
 has-room-requires : tie.Need-has-room-requires
 has-room-requires c κs = well-formed-told _ .fact (sym (c .before .before .before .before .well-formed .ensures) ∙ not-false _ (c .before .before .before .if1 .left))
 
-unload-requires-3 : tie.Need-unload-requires-3
-unload-requires-3 c κs = search needs
+no-call-requires-3 : tie.Need-no-call-requires-3
+no-call-requires-3 c κs = search needs
 
 same-length-2 : tie.Need-same-length-2
 same-length-2 c = search needs
@@ -51,7 +51,7 @@ returns-3 c =
     let good = sym (c .before .before .before .before .before .before .before .well-formed .ensures) ∙ not-false _ (c .before .before .before .before .before .before .if1 .left) in
     let fit = sym (c .before .before .before .before .agrees .ensures) ∙ not-false _ (c .before .before .before .if2 .left) in
     let room = sym (c .before .before .has-room .ensures) ∙ not-true _ (c .before .if3 .taken) in
-    (rw (good, fit, room) (c .unload3 .ensures), rw (good, fit, room))
+    (rw (good, fit, room) (c .no-call3 .ensures), rw (good, fit, room))
 
 write-record-requires : tie.Need-write-record-requires
 write-record-requires c κs =
@@ -78,4 +78,4 @@ returns-4 c =
     (rw (good, fit, room) (c .load .ensures ∙ rw (c .before .with-record-table .ensures, c .before .before .before .before .write-record .ensures .0)), rw (good, fit, room) (c .before .before .before .before .write-record .ensures .1))
 
 pub load-record-spec : {M : Type 1} → statement M
-load-record-spec = tie.close (tie.spec well-formed-requires unload-requires returns agrees-requires unload-requires-2 same-length returns-2 has-room-requires unload-requires-3 same-length-2 returns-3 write-record-requires with-record-table-requires load-requires same-length-3 returns-4)
+load-record-spec = tie.close (tie.spec well-formed-requires no-call-requires returns agrees-requires no-call-requires-2 same-length returns-2 has-room-requires no-call-requires-3 same-length-2 returns-3 write-record-requires with-record-table-requires load-requires same-length-3 returns-4)

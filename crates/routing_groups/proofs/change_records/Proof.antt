@@ -35,12 +35,12 @@ returns-3 : tie.Need-returns-3
 unfolding changeRecords storeAfter
 returns-3 c = (rw (ne-eqb (c .before .before .before .before .before .before .before .before .before .args .number) 6 (c .before .before .before .before .before .before .if1 .left), ne-eqb (c .before .before .before .before .before .before .before .before .before .args .number) 22 (c .before .before .before .before .before .if2 .left), eq-eqb (c .before .before .before .before .before .before .before .before .before .args .number) 23 (c .before .before .before .before .if3 .taken)) (c .before .before .remove-route-record .ensures .0), rw (ne-eqb (c .before .before .before .before .before .before .before .before .before .args .number) 6 (c .before .before .before .before .before .before .if1 .left), ne-eqb (c .before .before .before .before .before .before .before .before .before .args .number) 22 (c .before .before .before .before .before .if2 .left), eq-eqb (c .before .before .before .before .before .before .before .before .before .args .number) 23 (c .before .before .before .before .if3 .taken)) (c .before .before .remove-route-record .ensures .1))
 
-unload-requires : tie.Need-unload-requires
-unload-requires c κs = search needs
+no-call-requires : tie.Need-no-call-requires
+no-call-requires c κs = search needs
 
 returns-4 : tie.Need-returns-4
 unfolding changeRecords storeAfter
-returns-4 c = (rw (ne-eqb _ _ (c .before .before .before .if1 .left), ne-eqb _ _ (c .before .before .if2 .left), ne-eqb _ _ (c .before .if3 .left)) (c .unload .ensures), rw (ne-eqb _ _ (c .before .before .before .if1 .left), ne-eqb _ _ (c .before .before .if2 .left), ne-eqb _ _ (c .before .if3 .left)))
+returns-4 c = (rw (ne-eqb _ _ (c .before .before .before .if1 .left), ne-eqb _ _ (c .before .before .if2 .left), ne-eqb _ _ (c .before .if3 .left)) (c .no-call .ensures), rw (ne-eqb _ _ (c .before .before .before .if1 .left), ne-eqb _ _ (c .before .before .if2 .left), ne-eqb _ _ (c .before .if3 .left)))
 
 pub change-records-spec : {M : Type 1} → statement M
-change-records-spec = tie.close (tie.spec put-record-requires same-length returns store-route-record-requires same-length-2 returns-2 remove-route-record-requires same-length-3 returns-3 unload-requires returns-4)
+change-records-spec = tie.close (tie.spec put-record-requires same-length returns store-route-record-requires same-length-2 returns-2 remove-route-record-requires same-length-3 returns-3 no-call-requires returns-4)

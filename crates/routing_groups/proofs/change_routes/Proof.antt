@@ -61,12 +61,12 @@ returns-8 : tie.Need-returns-8
 unfolding changeRoutes
 returns-8 c = rw (ne-eqb _ _ (c .before .before .before .before .before .before .before .before .if1 .left), ne-eqb _ _ (c .before .before .before .before .before .before .before .if2 .left), ne-eqb _ _ (c .before .before .before .before .before .before .if3 .left), ne-eqb _ _ (c .before .before .before .before .before .if4 .left), ne-eqb _ _ (c .before .before .before .before .if5 .left), ne-eqb _ _ (c .before .before .before .if6 .left), ne-eqb _ _ (c .before .before .if7 .left), eq-eqb _ _ (c .before .if8 .taken)) (c .remove-route .ensures)
 
-unload-requires : tie.Need-unload-requires
-unload-requires c κs = search needs
+no-call-requires : tie.Need-no-call-requires
+no-call-requires c κs = search needs
 
 returns-9 : tie.Need-returns-9
 unfolding changeRoutes
-returns-9 c = rw (ne-eqb _ _ (c .before .before .before .before .before .before .before .before .if1 .left), ne-eqb _ _ (c .before .before .before .before .before .before .before .if2 .left), ne-eqb _ _ (c .before .before .before .before .before .before .if3 .left), ne-eqb _ _ (c .before .before .before .before .before .if4 .left), ne-eqb _ _ (c .before .before .before .before .if5 .left), ne-eqb _ _ (c .before .before .before .if6 .left), ne-eqb _ _ (c .before .before .if7 .left), ne-eqb _ _ (c .before .if8 .left)) (c .unload .ensures)
+returns-9 c = rw (ne-eqb _ _ (c .before .before .before .before .before .before .before .before .if1 .left), ne-eqb _ _ (c .before .before .before .before .before .before .before .if2 .left), ne-eqb _ _ (c .before .before .before .before .before .before .if3 .left), ne-eqb _ _ (c .before .before .before .before .before .if4 .left), ne-eqb _ _ (c .before .before .before .before .if5 .left), ne-eqb _ _ (c .before .before .before .if6 .left), ne-eqb _ _ (c .before .before .if7 .left), ne-eqb _ _ (c .before .if8 .left)) (c .no-call .ensures)
 
 pub change-routes-spec : {M : Type 1} → statement M
-change-routes-spec = tie.close (tie.spec note-route-error-requires returns note-delivery-failure-requires returns-2 reset-mtorr-triggers-requires returns-3 mark-discovery-failed-requires returns-4 record-usage-requires returns-5 decay-activity-requires returns-6 invalidate-via-requires returns-7 remove-route-requires returns-8 unload-requires returns-9)
+change-routes-spec = tie.close (tie.spec note-route-error-requires returns note-delivery-failure-requires returns-2 reset-mtorr-triggers-requires returns-3 mark-discovery-failed-requires returns-4 record-usage-requires returns-5 decay-activity-requires returns-6 invalidate-via-requires returns-7 remove-route-requires returns-8 no-call-requires returns-9)

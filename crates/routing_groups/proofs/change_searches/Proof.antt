@@ -54,12 +54,12 @@ returns-7 : tie.Need-returns-7
 unfolding changeSearches
 returns-7 c = rw (ne-eqb _ _ (c .before .before .before .before .before .before .before .if1 .left), ne-eqb _ _ (c .before .before .before .before .before .before .if2 .left), ne-eqb _ _ (c .before .before .before .before .before .if3 .left), ne-eqb _ _ (c .before .before .before .before .if4 .left), ne-eqb _ _ (c .before .before .before .if5 .left), ne-eqb _ _ (c .before .before .if6 .left), eq-eqb _ _ (c .before .if7 .taken)) (c .accept-route-reply .ensures)
 
-unload-requires : tie.Need-unload-requires
-unload-requires c κs = search needs
+no-call-requires : tie.Need-no-call-requires
+no-call-requires c κs = search needs
 
 returns-8 : tie.Need-returns-8
 unfolding changeSearches
-returns-8 c = rw (ne-eqb _ _ (c .before .before .before .before .before .before .before .if1 .left), ne-eqb _ _ (c .before .before .before .before .before .before .if2 .left), ne-eqb _ _ (c .before .before .before .before .before .if3 .left), ne-eqb _ _ (c .before .before .before .before .if4 .left), ne-eqb _ _ (c .before .before .before .if5 .left), ne-eqb _ _ (c .before .before .if6 .left), ne-eqb _ _ (c .before .if7 .left)) (c .unload .ensures)
+returns-8 c = rw (ne-eqb _ _ (c .before .before .before .before .before .before .before .if1 .left), ne-eqb _ _ (c .before .before .before .before .before .before .if2 .left), ne-eqb _ _ (c .before .before .before .before .before .if3 .left), ne-eqb _ _ (c .before .before .before .before .if4 .left), ne-eqb _ _ (c .before .before .before .if5 .left), ne-eqb _ _ (c .before .before .if6 .left), ne-eqb _ _ (c .before .if7 .left)) (c .no-call .ensures)
 
 pub change-searches-spec : {M : Type 1} → statement M
-change-searches-spec = tie.close (tie.spec restore-route-requires returns note-source-routed-frame-requires returns-2 note-relayed-discovery-requires returns-3 begin-discovery-requires returns-4 begin-many-to-one-advertisement-requires returns-5 accept-route-request-requires returns-6 accept-route-reply-requires returns-7 unload-requires returns-8)
+change-searches-spec = tie.close (tie.spec restore-route-requires returns note-source-routed-frame-requires returns-2 note-relayed-discovery-requires returns-3 begin-discovery-requires returns-4 begin-many-to-one-advertisement-requires returns-5 accept-route-request-requires returns-6 accept-route-reply-requires returns-7 no-call-requires returns-8)

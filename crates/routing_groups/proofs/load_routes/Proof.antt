@@ -68,12 +68,12 @@ returns-9 : tie.Need-returns-9
 unfolding loadRoutes
 returns-9 c = rw (ne-eqb _ _ (c .before .before .before .before .before .before .before .before .before .if1 .left), ne-eqb _ _ (c .before .before .before .before .before .before .before .before .if2 .left), ne-eqb _ _ (c .before .before .before .before .before .before .before .if3 .left), ne-eqb _ _ (c .before .before .before .before .before .before .if4 .left), ne-eqb _ _ (c .before .before .before .before .before .if5 .left), ne-eqb _ _ (c .before .before .before .before .if6 .left), ne-eqb _ _ (c .before .before .before .if7 .left), ne-eqb _ _ (c .before .before .if8 .left), eq-eqb _ _ (c .before .if9 .taken)) (c .set-record-key .ensures)
 
-unload-requires : tie.Need-unload-requires
-unload-requires c κs = search needs
+no-call-requires : tie.Need-no-call-requires
+no-call-requires c κs = search needs
 
 returns-10 : tie.Need-returns-10
 unfolding loadRoutes
-returns-10 c = rw (ne-eqb _ _ (c .before .before .before .before .before .before .before .before .before .if1 .left), ne-eqb _ _ (c .before .before .before .before .before .before .before .before .if2 .left), ne-eqb _ _ (c .before .before .before .before .before .before .before .if3 .left), ne-eqb _ _ (c .before .before .before .before .before .before .if4 .left), ne-eqb _ _ (c .before .before .before .before .before .if5 .left), ne-eqb _ _ (c .before .before .before .before .if6 .left), ne-eqb _ _ (c .before .before .before .if7 .left), ne-eqb _ _ (c .before .before .if8 .left), ne-eqb _ _ (c .before .if9 .left)) (c .unload .ensures)
+returns-10 c = rw (ne-eqb _ _ (c .before .before .before .before .before .before .before .before .before .if1 .left), ne-eqb _ _ (c .before .before .before .before .before .before .before .before .if2 .left), ne-eqb _ _ (c .before .before .before .before .before .before .before .if3 .left), ne-eqb _ _ (c .before .before .before .before .before .before .if4 .left), ne-eqb _ _ (c .before .before .before .before .before .if5 .left), ne-eqb _ _ (c .before .before .before .before .if6 .left), ne-eqb _ _ (c .before .before .before .if7 .left), ne-eqb _ _ (c .before .before .if8 .left), ne-eqb _ _ (c .before .if9 .left)) (c .no-call .ensures)
 
 pub load-routes-spec : {M : Type 1} → statement M
-load-routes-spec = tie.close (tie.spec put-counters-requires returns put-route-requires returns-2 put-discovery-requires returns-3 set-route-count-requires returns-4 set-discovery-count-requires returns-5 set-record-count-requires returns-6 set-route-key-requires returns-7 set-discovery-key-requires returns-8 set-record-key-requires returns-9 unload-requires returns-10)
+load-routes-spec = tie.close (tie.spec put-counters-requires returns put-route-requires returns-2 put-discovery-requires returns-3 set-route-count-requires returns-4 set-discovery-count-requires returns-5 set-record-count-requires returns-6 set-route-key-requires returns-7 set-discovery-key-requires returns-8 set-record-key-requires returns-9 no-call-requires returns-10)

@@ -1,7 +1,7 @@
 -- Nothing is said.
 use borrow.Author.Needs.{needs}
-use Rattle.neighbor_loads.proofs.unload.Statement.{statement}
-use Rattle.neighbor_loads.proofs.unload.Tie as tie
+use Rattle.route_loads.proofs.no_call.Statement.{statement}
+use Rattle.route_loads.proofs.no_call.Tie as tie
 
 no-call-requires : tie.Need-no-call-requires
 no-call-requires c κs = search needs
@@ -9,5 +9,5 @@ no-call-requires c κs = search needs
 returns : tie.Need-returns
 returns c = λ z. record { answer = c .no-call .ensures z; state = c .before .args .s }
 
-pub unload-spec : {M : Type 1} → statement M
-unload-spec = tie.close (tie.spec no-call-requires returns)
+pub no-call-spec : {M : Type 1} → statement M
+no-call-spec = tie.close (tie.spec no-call-requires returns)
