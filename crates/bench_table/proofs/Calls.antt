@@ -19,7 +19,7 @@ use Rattle.routing.specs.declared.Routing.{Routing}
 use Rattle.routing.specs.declared.RouteRequestOutcome.{RouteRequestOutcome}
 use Rattle.routing.specs.declared.RouteReplyOutcome.{RouteReplyOutcome}
 use Rattle.routing.specs.Search.{acceptRouteRequest, acceptRouteReply}
-use Rattle.routing.specs.State.{fresh, withSearch}
+use Rattle.routing.specs.State.{fresh, withSearch, routeTable, discoveryTable}
 
 -- the own address, the one time and the discovery time
 abbrev pub own : Nwk
@@ -60,10 +60,10 @@ route destination status hop cost = record {
 
 -- the rows of a state
 abbrev pub routesOf : Routing → List RouteEntry
-routesOf s = routes.rowsOf (s .«route_table»)
+routesOf s = routes.rowsOf (routeTable s)
 
 abbrev pub searchesOf : Routing → List DiscoveryEntry
-searchesOf s = discoveries.rowsOf (s .«discovery_table»)
+searchesOf s = discoveries.rowsOf (discoveryTable s)
 
 -- the fresh state with these rows put in
 abbrev pub holding : List RouteEntry → List DiscoveryEntry → Routing

@@ -13,11 +13,13 @@ use Rattle.standard.specs.Expiry.{expired}
 use Rattle.standard.specs.Ordered.{lookup, put, keep}
 use Rattle.standard.specs.Query.{someFits}
 use Rattle.standard.specs.Route.{nwk}
-use Rattle.flat_map.specs.Table.{formed}
 use Rattle.route_table.specs.Table as routes
 use Rattle.discovery_table.specs.Table as discoveries
 use Rattle.record_table.specs.Table as records
 use Rattle.route_begin.specs.Answer.{begun, begunOn, begunWith}
+use Rattle.columns.specs.Columns.{places, ordered}
+use Rattle.route_table.specs.Codec.{routeWord, routeIn}
+use Rattle.discovery_table.specs.Codec.{discoveryWord, discoveryIn}
 use Rattle.routing.specs.declared.Routing.{Routing}
 use Rattle.routing.specs.Search.{beginDiscovery}
 use Rattle.routing.specs.State.{wellFormed, fresh}
@@ -38,7 +40,7 @@ abbrev pub begins : Routing
 begins = beginDiscovery fresh own (nwk 0x4444) moment span .state
 
 pub p8-begun : searchesOf begins ≡ ownDiscovery own 1 15000 (nwk 0x4444) ∷ []
-unfolding beginDiscovery begun begunOn begunWith begin expired someFits wellFormed formed routes.tableOf discoveries.tableOf records.tableOf lookup put
+unfolding beginDiscovery begun begunOn begunWith begin expired someFits wellFormed ordered places routeWord routeIn discoveryWord discoveryIn routes.tableOf discoveries.tableOf records.tableOf lookup put
 p8-begun = refl
 
 -- another search, begun at 15,000: the first is gone, and its route that was underway with it
@@ -46,11 +48,11 @@ abbrev pub at : Routing
 at = beginDiscovery begins own (nwk 0x5555) 15000 span .state
 
 pub p8-at-searches : searchesOf at ≡ ownDiscovery own 2 25000 (nwk 0x5555) ∷ []
-unfolding beginDiscovery begun begunOn begunWith begin expired someFits wellFormed formed routes.tableOf discoveries.tableOf records.tableOf lookup put
+unfolding beginDiscovery begun begunOn begunWith begin expired someFits wellFormed ordered places routeWord routeIn discoveryWord discoveryIn routes.tableOf discoveries.tableOf records.tableOf lookup put
 p8-at-searches = refl
 
 pub p8-at-routes : routesOf at ≡ route 0x5555 DiscoveryUnderway 0xFFFF 255 ∷ []
-unfolding beginDiscovery begun begunOn begunWith begin expired someFits wellFormed formed routes.tableOf discoveries.tableOf records.tableOf lookup put
+unfolding beginDiscovery begun begunOn begunWith begin expired someFits wellFormed ordered places routeWord routeIn discoveryWord discoveryIn routes.tableOf discoveries.tableOf records.tableOf lookup put
 p8-at-routes = refl
 
 -- begun one millisecond before that: both are there
@@ -58,9 +60,9 @@ abbrev pub before : Routing
 before = beginDiscovery begins own (nwk 0x5555) 14999 span .state
 
 pub p8-before-searches : searchesOf before ≡ ownDiscovery own 1 15000 (nwk 0x4444) ∷ ownDiscovery own 2 24999 (nwk 0x5555) ∷ []
-unfolding beginDiscovery begun begunOn begunWith begin expired someFits wellFormed formed routes.tableOf discoveries.tableOf records.tableOf lookup put
+unfolding beginDiscovery begun begunOn begunWith begin expired someFits wellFormed ordered places routeWord routeIn discoveryWord discoveryIn routes.tableOf discoveries.tableOf records.tableOf lookup put
 p8-before-searches = refl
 
 pub p8-before-routes : routesOf before ≡ route 0x4444 DiscoveryUnderway 0xFFFF 255 ∷ route 0x5555 DiscoveryUnderway 0xFFFF 255 ∷ []
-unfolding beginDiscovery begun begunOn begunWith begin expired someFits wellFormed formed routes.tableOf discoveries.tableOf records.tableOf lookup put
+unfolding beginDiscovery begun begunOn begunWith begin expired someFits wellFormed ordered places routeWord routeIn discoveryWord discoveryIn routes.tableOf discoveries.tableOf records.tableOf lookup put
 p8-before-routes = refl

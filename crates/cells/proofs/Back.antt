@@ -13,7 +13,7 @@ use lib.Seq.{getD-drop, drop-drop, drop-at}
 use Rattle.numbers.specs.Read.{numberAt, listed}
 use Rattle.numbers.specs.Said.{flagNumber}
 use Rattle.flat_map.specs.Table.{Each}
-use Rattle.cells.specs.Keys.{keysAt}
+use Rattle.cells.specs.Keys.{keysAt, cutAt}
 
 -- the number at a place, where it is known what stands from an earlier place on
 pub there : (xs ys : List ℕ) (b k : ℕ) → drop b xs ≡ ys → numberAt xs (b + k) ≡ getD ys k 0
@@ -57,6 +57,11 @@ pub keys-back : (ks xs rest : List ℕ) (b n : ℕ) → drop b xs ≡ ks ++ rest
 unfolding keysAt
 keys-back ks xs rest b n h l = numbers-back (λ k. k) ks xs rest b n h l ∙ map-id ks
 
+-- a column of numbers that fit their field
+pub column-back : (k : ℕ) (ns xs rest : List ℕ) (b n : ℕ) → drop b xs ≡ ns ++ rest → length ns ≡ n → Each (λ i. i < k) ns → cutAt k xs b n ≡ ns
+unfolding cutAt
+column-back k ns xs rest b n h l a = numbers-back (λ i. i % k) ns xs rest b n h l ∙ cut-each k ns a
+
 -- rows of w numbers each, of elements that are read back one by one
 module _ {E : Type 0} (g : E → List ℕ) (w : ℕ) (r : List ℕ → ℕ → E) (P : E → Type 0) (sized : (e : E) → length (g e) ≡ w) (back : (e : E) (xs rest : List ℕ) (b : ℕ) → drop b xs ≡ g e ++ rest → P e → r xs b ≡ e) where
   rows-from : (es : List E) (xs rest : List ℕ) (b i : ℕ) → drop (b + i * w) xs ≡ flatMap g es ++ rest → Each P es → listed (λ k. r xs (b + k * w)) i (length es) ≡ es
@@ -81,3 +86,11 @@ module _ (c : ℕ) (keys rows xs rest : List ℕ) (b : ℕ) (h : drop b xs ≡ c
 
   pub rows-part : (n : ℕ) → length keys ≡ n → drop (b + 1 + n) xs ≡ rows ++ rest
   rows-part n l = after keys (rows ++ rest) xs (b + 1) n keys-part l
+
+-- and of one with three columns of n numbers
+module _ (c : ℕ) (keys words last xs rest : List ℕ) (b n : ℕ) (h : drop b xs ≡ c ∷ (keys ++ (words ++ last) ++ rest)) (k : length keys ≡ n) where
+  pub words-part : drop (b + 1 + n) xs ≡ words ++ (last ++ rest)
+  words-part = rows-part c keys (words ++ last) xs rest b h n k ∙ append-assoc words last rest
+
+  pub last-part : length words ≡ n → drop (b + 1 + n + n) xs ≡ last ++ rest
+  last-part w = after words (last ++ rest) xs (b + 1 + n) n words-part w

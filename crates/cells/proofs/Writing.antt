@@ -40,3 +40,8 @@ module _ {E : Type 0} (g : E → List ℕ) (w : ℕ) (es : List E) (b i : ℕ) (
 pub put-table : (im : List ℕ) (place k r c : ℕ) (keys rows : List ℕ) → k ≡ place + 1 → r ≡ k + length keys → sets (sets (sets im place (c ∷ [])) k keys) r rows ≡ sets im place (c ∷ keys ++ rows)
 put-table im place k r c keys rows e f =
     put-both keys rows (set im place c) k r f ∙ ap (λ (m : ℕ). sets (set im place c) m (keys ++ rows)) (e ∙ add-one place)
+
+-- and one of three columns
+pub put-columns : (im : List ℕ) (place k w u c : ℕ) (keys words last : List ℕ) → k ≡ place + 1 → w ≡ k + length keys → u ≡ w + length words → sets (sets (sets (sets im place (c ∷ [])) k keys) w words) u last ≡ sets im place (c ∷ keys ++ (words ++ last))
+put-columns im place k w u c keys words last e f g =
+    put-both words last (sets (sets im place (c ∷ [])) k keys) w u g ∙ put-table im place k w c keys (words ++ last) e f

@@ -1,26 +1,47 @@
-// The places of an image of numbers: where each part begins, and how numbers are put there and keys are read.
-// 0 a mark, 1 a version, 2 and 3 the trigger counters, 4 the last request id; then each table: its count, its keys, its rows;
-// last the 2,048 numbers of the relay store. Rows not in use stand there too, so that damage to them shows.
+// The places of an image of numbers: where each part begins, and how columns of numbers are put there and read.
+// 0 a mark, 1 a version, 2 and 3 the trigger counters, 4 the last request id; then the routes, the discoveries and the records: each its
+// count and its columns; then the neighbours and the waiting samples: each its count, its keys and its rows; last the 2,048 numbers of
+// the relay store. Places not in use stand there too, so that damage to them shows.
 ghost use mathlib.Core.Path.{_≡_};
 ghost use Prim.Native.Nat.{_<_};
 ghost use lib.Seq.{sets};
-ghost use Rattle.cells.specs.Keys.{keysAt};
+ghost use Rattle.cells.specs.Keys.{keysAt, cutAt};
 
-// Where each table's count stands; its keys and then its rows come after it.
+// Where each table's count stands, and where each of its columns, or its rows, begins.
 pub const ROUTES: usize = 5;
 
-pub const DISCOVERIES: usize = 710;
+pub const ROUTE_KEYS: usize = 6;
 
-pub const RECORDS: usize = 967;
+pub const ROUTE_WORDS: usize = 70;
 
-pub const NEIGHBORS: usize = 1160;
+pub const ROUTE_USAGE: usize = 134;
 
-pub const WAITING: usize = 2953;
+pub const DISCOVERIES: usize = 198;
 
-// The keys of a table of 64 places, and of one of 32.
-pub type Keys64 = [u64; 64];
+pub const DISCOVERY_KEYS: usize = 199;
 
-pub type Keys32 = [u64; 32];
+pub const DISCOVERY_WORDS: usize = 231;
+
+pub const DISCOVERY_ENDS: usize = 263;
+
+pub const RECORDS: usize = 295;
+
+pub const RECORD_KEYS: usize = 296;
+
+pub const RECORD_LENGTHS: usize = 360;
+
+pub const NEIGHBORS: usize = 424;
+
+pub const NEIGHBOR_ROWS: usize = 489;
+
+pub const WAITING: usize = 2217;
+
+pub const WAITING_ROWS: usize = 2282;
+
+// Where the relay store begins, and how many numbers an image has.
+pub const STORE: usize = 2666;
+
+pub const LENGTH: usize = 4714;
 
 // Numbers put one after another from a place on; what would stand past the end is left out.
 pub fn put_each(image: &mut [u64], base: usize, xs: &[u64])
@@ -38,8 +59,56 @@ pub fn put_each(image: &mut [u64], base: usize, xs: &[u64])
     }
 }
 
-// The 64 keys from a place on.
-pub fn keys_64(image: &[u64], base: usize) -> Keys64
+// Bytes put so.
+pub fn put_each8(image: &mut [u64], base: usize, xs: &[u8])
+    ensures { λ _. ⌜ now (image .exit) ≡ sets (now (image .entry)) base (now (xs .entry)) ⌝ }
+{
+    let mut at = base;
+    let mut i: usize = 0;
+    while i < xs.len() {
+        if image.len() <= at {
+            return;
+        }
+        image[at] = xs[i] as u64;
+        at += 1;
+        i += 1;
+    }
+}
+
+// Numbers of 16 bits put so.
+pub fn put_each16(image: &mut [u64], base: usize, xs: &[u16])
+    ensures { λ _. ⌜ now (image .exit) ≡ sets (now (image .entry)) base (now (xs .entry)) ⌝ }
+{
+    let mut at = base;
+    let mut i: usize = 0;
+    while i < xs.len() {
+        if image.len() <= at {
+            return;
+        }
+        image[at] = xs[i] as u64;
+        at += 1;
+        i += 1;
+    }
+}
+
+// Numbers of 32 bits put so.
+pub fn put_each32(image: &mut [u64], base: usize, xs: &[u32])
+    ensures { λ _. ⌜ now (image .exit) ≡ sets (now (image .entry)) base (now (xs .entry)) ⌝ }
+{
+    let mut at = base;
+    let mut i: usize = 0;
+    while i < xs.len() {
+        if image.len() <= at {
+            return;
+        }
+        image[at] = xs[i] as u64;
+        at += 1;
+        i += 1;
+    }
+}
+
+// The 64 numbers from a place on.
+pub fn keys_64(image: &[u64], base: usize) -> [u64; 64]
     requires { ⌜ base < 65536 ⌝ }
     ensures { λ r. ⌜ r ≡ keysAt (now (image .entry)) base 64 ⌝ }
 {
@@ -52,8 +121,8 @@ pub fn keys_64(image: &[u64], base: usize) -> Keys64
     keys
 }
 
-// The 32 keys from a place on.
-pub fn keys_32(image: &[u64], base: usize) -> Keys32
+// The 32 numbers from a place on.
+pub fn keys_32(image: &[u64], base: usize) -> [u64; 32]
     requires { ⌜ base < 65536 ⌝ }
     ensures { λ r. ⌜ r ≡ keysAt (now (image .entry)) base 32 ⌝ }
 {
@@ -64,4 +133,60 @@ pub fn keys_32(image: &[u64], base: usize) -> Keys32
         i += 1;
     }
     keys
+}
+
+// The 64 numbers from a place on, each cut to a byte.
+pub fn column8_64(image: &[u64], base: usize) -> [u8; 64]
+    requires { ⌜ base < 65536 ⌝ }
+    ensures { λ r. ⌜ r ≡ cutAt 256 (now (image .entry)) base 64 ⌝ }
+{
+    let mut column = [0; 64];
+    let mut i: usize = 0;
+    while i < 64 {
+        column[i] = (numbers::at(image, base + i) % 256) as u8;
+        i += 1;
+    }
+    column
+}
+
+// The 64 numbers from a place on, each cut to 16 bits.
+pub fn column16_64(image: &[u64], base: usize) -> [u16; 64]
+    requires { ⌜ base < 65536 ⌝ }
+    ensures { λ r. ⌜ r ≡ cutAt 65536 (now (image .entry)) base 64 ⌝ }
+{
+    let mut column = [0; 64];
+    let mut i: usize = 0;
+    while i < 64 {
+        column[i] = (numbers::at(image, base + i) % 65536) as u16;
+        i += 1;
+    }
+    column
+}
+
+// The 64 numbers from a place on, each cut to 32 bits.
+pub fn column32_64(image: &[u64], base: usize) -> [u32; 64]
+    requires { ⌜ base < 65536 ⌝ }
+    ensures { λ r. ⌜ r ≡ cutAt 4294967296 (now (image .entry)) base 64 ⌝ }
+{
+    let mut column = [0; 64];
+    let mut i: usize = 0;
+    while i < 64 {
+        column[i] = (numbers::at(image, base + i) % 4294967296) as u32;
+        i += 1;
+    }
+    column
+}
+
+// The 32 numbers from a place on, each cut to 32 bits.
+pub fn column32_32(image: &[u64], base: usize) -> [u32; 32]
+    requires { ⌜ base < 65536 ⌝ }
+    ensures { λ r. ⌜ r ≡ cutAt 4294967296 (now (image .entry)) base 32 ⌝ }
+{
+    let mut column = [0; 32];
+    let mut i: usize = 0;
+    while i < 32 {
+        column[i] = (numbers::at(image, base + i) % 4294967296) as u32;
+        i += 1;
+    }
+    column
 }

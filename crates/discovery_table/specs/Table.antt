@@ -1,25 +1,36 @@
--- The route discovery table by value: 32 places, ordered by source and request id.
--- Document 01, "Capacities and clock": "discoveries 32"; "Well formed".
+-- The route discovery table: 32 places in three columns of numbers, keys, words and ends, ordered by source and request id, read as the
+-- discoveries that it holds. Document 01, "Capacities and clock": "discoveries 32"; "Well formed".
 -- Assumes nothing.
-use Prim.Native.Nat.{ℕ, _+_, _-_}
+use Prim.Native.Nat.{ℕ}
 use mathlib.Core.Bool.{Bool, _&&_}
-use mathlib.Core.List.{List, map}
+use mathlib.Core.List.{List, [], _∷_, map}
 use mathlib.Core.Option.{Option, none, some}
-use lib.Dec.{eqb}
-use lib.ListN.{length, take, set}
+use mathlib.Core.Path.{_≡_}
+use lib.ListN.{length}
 use Rattle.standard.specs.declared.DiscoveryEntry.{DiscoveryEntry}
 use Rattle.standard.specs.Discovery.{discoveryKey}
 use Rattle.standard.specs.Route.{nwk}
 use Rattle.flat_map.specs.Rows.{pad}
-use Rattle.flat_map.specs.Shift.{shiftIn, shiftOut}
-use Rattle.flat_map.specs.Table.{Formed, formed}
-use Rattle.discovery_table.specs.declared.DiscoveryTable.{DiscoveryTable}
+use Rattle.flat_map.specs.Table.{Each, Fit}
+use Rattle.columns.specs.Columns.{Ordered, ordered, Under, areUnder}
+use Rattle.columns.specs.Table.{rowsIn}
+use Rattle.discovery_table.specs.Codec.{discoveryOf, discoveryWord, wordEnd, keyEnd, InRange}
 use Rattle.discovery_table.specs.declared.DiscoveryLookup.{DiscoveryLookup}
 use Rattle.discovery_table.specs.declared.DiscoveryLookup.the-variants.{Found, Missing}
 use Rattle.discovery_table.specs.declared.Deadline.{Deadline}
 use Rattle.discovery_table.specs.declared.Deadline.the-variants.{At, None}
 
--- what stands in a place that is not in use
+pub record DiscoveryTable : Type 0 where
+  pub keys : List ℕ
+  pub words : List ℕ
+  pub ends : List ℕ
+  pub count : ℕ
+
+-- the table in columns that are lent
+abbrev pub inColumns : List ℕ → List ℕ → List ℕ → ℕ → DiscoveryTable
+inColumns keys words ends count = record { keys = keys; words = words; ends = ends; count = count }
+
+-- what stands in a place that is not in use: all zeros
 abbrev pub blankDiscovery : DiscoveryEntry
 blankDiscovery = record {
   «route_request_id» = 0;
@@ -31,40 +42,37 @@ blankDiscovery = record {
   «destination_address» = nwk 0;
 }
 
-abbrev pub isBlank : DiscoveryEntry → Bool
-isBlank e =
-    eqb (e .«route_request_id») 0
-    && (eqb (e .«source_address» .0) 0
-    && (eqb (e .«sender_address» .0) 0
-    && (eqb (e .«forward_cost») 0
-    && (eqb (e .«residual_cost») 0
-    && (eqb (e .«expiration_time») 0
-    && eqb (e .«destination_address» .0) 0)))))
-
-abbrev pub WellFormed : DiscoveryTable → Type 0
-WellFormed t = Formed 32 discoveryKey blankDiscovery (t .keys) (t .entries) (t .count)
+pub record WellFormed (t : DiscoveryTable) : Type 0 where
+  pub ordered : Ordered 32 (t .keys) (t .words ∷ t .ends ∷ []) (t .count)
+  pub pairs : Under keyEnd (t .keys)
+  pub fields : Under wordEnd (t .words)
 
 -- `WellFormed`, computed
 abbrev pub wellFormed : DiscoveryTable → Bool
-wellFormed t = formed 32 discoveryKey isBlank (t .keys) (t .entries) (t .count)
+wellFormed t = ordered 32 (t .keys) (t .words ∷ t .ends ∷ []) (t .count) && (areUnder keyEnd (t .keys) && areUnder wordEnd (t .words))
 
 -- the discoveries that a table holds
 abbrev pub rowsOf : DiscoveryTable → List DiscoveryEntry
-rowsOf t = take (t .count) (t .entries)
+rowsOf t = rowsIn discoveryOf 32 (t .keys ∷ t .words ∷ t .ends ∷ []) (t .count)
 
 -- the table that holds the discoveries xs
 unfoldable pub tableOf : List DiscoveryEntry → DiscoveryTable
-tableOf xs = record { keys = pad 32 0 (map discoveryKey xs); entries = pad 32 blankDiscovery xs; count = length xs }
+tableOf xs = record {
+  keys = pad 32 0 (map discoveryKey xs);
+  words = pad 32 0 (map discoveryWord xs);
+  ends = pad 32 0 (map (λ (d : DiscoveryEntry). d .«expiration_time») xs);
+  count = length xs;
+}
 
--- the steps on the arrays
-abbrev pub inserted : DiscoveryTable → ℕ → ℕ → DiscoveryEntry → DiscoveryTable
-inserted t i k e = record { keys = shiftIn i k (t .keys); entries = shiftIn i e (t .entries); count = t .count + 1 }
+-- discoveries that a table can hold
+pub record Fits (xs : List DiscoveryEntry) : Type 0 where
+  pub fit : Fit 32 discoveryKey blankDiscovery xs
+  pub ranged : Each InRange xs
 
-abbrev pub replaced : DiscoveryTable → ℕ → DiscoveryEntry → DiscoveryTable
-replaced t i e = record { keys = t .keys; entries = set (t .entries) i e; count = t .count }
-
-abbrev pub removed : DiscoveryTable → ℕ → DiscoveryTable
-removed t i = record { keys = shiftOut i 0 (t .keys); entries = shiftOut i blankDiscovery (t .entries); count = t .count - 1 }
+-- a table that is well formed and holds the discoveries xs
+pub record Holds (t : DiscoveryTable) (xs : List DiscoveryEntry) : Type 0 where
+  pub formed : WellFormed t
+  pub rows : rowsOf t ≡ xs
 
 -- a look-up's answer
 abbrev pub looked : Option DiscoveryEntry → DiscoveryLookup

@@ -1,23 +1,18 @@
-// The route discovery table: 32 places by value, ordered by source and request id. Each function is a step on its rows.
+// The route discovery table in columns of numbers that are lent and changed in place. Each function is a step on the discoveries that the columns hold.
 use flat_map::Place;
 use standard::DiscoveryEntry;
 use types::Nwk;
-ghost use mathlib.Core.Bool.{_||_};
 ghost use mathlib.Core.Path.{_≡_};
-ghost use mathlib.Core.List.{[]};
-ghost use Prim.Native.Nat.{_+_, _-_, _≤_, _<_};
-ghost use lib.Dec.{leb};
-ghost use lib.ListN.{length};
-ghost use Rattle.standard.specs.Discovery.{pairKey, discoveryKey, live, names, awaits};
+ghost use Prim.Native.Nat.{_+_, _*_, _≤_, _<_};
+ghost use lib.ListN.{length, take, getD};
+ghost use Rattle.flat_map.specs.declared.Place.the-variants.{Found, Missing};
+ghost use Rattle.flat_map.specs.Seek.{placeOf};
+ghost use Rattle.flat_map.specs.Shift.{shiftOut};
+ghost use Rattle.standard.specs.Discovery.{pairKey, discoveryKey, live, isOver, names, awaits};
 ghost use Rattle.standard.specs.Ordered.{lookup, put, countWith, keep};
 ghost use Rattle.standard.specs.Query.{first, someFits, entryAt};
-ghost use Rattle.discovery_table.specs.Table.{blankDiscovery, isBlank, WellFormed, wellFormed, rowsOf, tableOf, inserted, removed, looked, deadlineOf};
-
-pub struct DiscoveryTable {
-    pub keys: [u64; 32],
-    pub entries: [DiscoveryEntry; 32],
-    pub count: usize,
-}
+ghost use Rattle.discovery_table.specs.Codec.{discoveryWord, discoveryIn};
+ghost use Rattle.discovery_table.specs.Table.{inColumns, WellFormed, wellFormed, rowsOf, Holds, looked, deadlineOf};
 
 // What stands under a source and a request id, or in a place.
 pub enum DiscoveryLookup {
@@ -32,241 +27,310 @@ pub enum Deadline {
 }
 
 // A source and a request id as one number, in the order of the pair.
-fn pair_key(source: Nwk, id: u8) -> u64
+pub fn pair_key(source: Nwk, id: u8) -> u32
     ensures { λ r. ⌜ r ≡ pairKey source id ⌝ }
 {
-    source.0 as u64 * 256 + id as u64
+    source.0 as u32 * 256 + id as u32
 }
 
-// What stands in a place that is not in use.
-fn blank() -> DiscoveryEntry
-    ensures { λ r. ⌜ r ≡ blankDiscovery ⌝ }
+// The discovery in a key, a word and an end.
+fn entry(key: u32, word: u64, end: u64) -> DiscoveryEntry
+    ensures { λ r. ⌜ r ≡ discoveryIn key word end ⌝ }
 {
     DiscoveryEntry {
-        route_request_id: 0,
-        source_address: Nwk(0),
-        sender_address: Nwk(0),
-        forward_cost: 0,
-        residual_cost: 0,
-        expiration_time: 0,
-        destination_address: Nwk(0),
+        route_request_id: (key % 256) as u8,
+        source_address: Nwk((key / 256 % 65536) as u16),
+        sender_address: Nwk((word % 65536) as u16),
+        forward_cost: (word / 4294967296 % 256) as u8,
+        residual_cost: (word / 1099511627776 % 256) as u8,
+        expiration_time: end,
+        destination_address: Nwk((word / 65536 % 65536) as u16),
     }
 }
 
-// Whether an entry is the blank one.
-fn is_blank(e: DiscoveryEntry) -> bool
-    ensures { λ r. ⌜ r ≡ isBlank e ⌝ }
+// The fields of a word, put together.
+fn packed(sender: u16, destination: u16, forward: u8, residual: u8) -> u64
+    ensures { λ r. ⌜ r ≡ sender + destination * 65536 + forward * 4294967296 + residual * 1099511627776 ⌝ }
 {
-    (e.route_request_id == 0)
-        & ((e.source_address.0 == 0)
-            & ((e.sender_address.0 == 0)
-                & ((e.forward_cost == 0)
-                    & ((e.residual_cost == 0)
-                        & ((e.expiration_time == 0) & (e.destination_address.0 == 0))))))
+    sender as u64
+        + destination as u64 * 65536
+        + forward as u64 * 4294967296
+        + residual as u64 * 1099511627776
 }
 
-// Whether a place holds what it may: any entry where it is in use, else the blank one.
-fn place_holds(used: bool, e: DiscoveryEntry) -> bool
-    ensures { λ r. ⌜ r ≡ (used || isBlank e) ⌝ }
+// The word of a discovery.
+fn word_of(e: DiscoveryEntry) -> u64
+    ensures { λ r. ⌜ r ≡ discoveryWord e ⌝ }
 {
-    if used {
-        return true;
-    }
-    is_blank(e)
+    packed(
+        e.sender_address.0,
+        e.destination_address.0,
+        e.forward_cost,
+        e.residual_cost,
+    )
 }
 
-// An entry put in at a place, both arrays shifted right.
-fn insert_at(t: DiscoveryTable, i: usize, key: u64, e: DiscoveryEntry) -> DiscoveryTable
-    requires { ⌜ t .count < 32 ⌝ }
-    ensures { λ r. ⌜ r ≡ inserted t i key e ⌝ }
+// Whether columns are a well-formed table.
+pub fn well_formed(keys: &[u32], words: &[u64], ends: &[u64], count: usize) -> bool
+    ensures { λ r. ⌜ r ≡ wellFormed (inColumns (now (keys .entry)) (now (words .entry)) (now (ends .entry)) count) ⌝ }
 {
-    let mut u = t;
-    let mut k = key;
-    let mut x = e;
-    let mut j = i;
-    while j < 32 {
-        let k2 = u.keys[j];
-        let x2 = u.entries[j];
-        u.keys[j] = k;
-        u.entries[j] = x;
-        k = k2;
-        x = x2;
-        j += 1;
-    }
-    u.count = t.count + 1;
-    u
-}
-
-// The entry at a place taken out, both arrays shifted left.
-fn remove_at(t: DiscoveryTable, i: usize) -> DiscoveryTable
-    requires { ⌜ (i < 32) × (0 < t .count) ⌝ }
-    ensures { λ r. ⌜ r ≡ removed t i ⌝ }
-{
-    let mut u = t;
-    let mut j = i;
-    while j < 31 {
-        u.keys[j] = u.keys[j + 1];
-        let x = u.entries[j + 1];
-        u.entries[j] = x;
-        j += 1;
-    }
-    u.keys[31] = 0;
-    let b = blank();
-    u.entries[31] = b;
-    u.count = t.count - 1;
-    u
-}
-
-// The table with no discovery.
-pub fn new() -> DiscoveryTable
-    ensures { λ r. ⌜ r ≡ tableOf [] ⌝ }
-{
-    let b = blank();
-    DiscoveryTable {
-        keys: [0; 32],
-        entries: [b; 32],
-        count: 0,
-    }
-}
-
-// Whether a table is well formed.
-pub fn well_formed(t: DiscoveryTable) -> bool
-    ensures { λ r. ⌜ r ≡ wellFormed t ⌝ }
-{
-    let n = t.count;
-    if 32 < n {
+    if keys.len() != 32 {
         return false;
     }
-    if !flat_map::rising(&t.keys, n) {
+    if words.len() != 32 {
         return false;
     }
-    let mut kept = true;
-    let mut i: usize = 0;
-    while i < 32 {
-        let k = t.keys[i];
-        let e = t.entries[i];
-        let source = e.source_address;
-        let key = pair_key(source, e.route_request_id);
-        let holds = place_holds(i < n, e);
-        kept = kept & ((k == key) & holds);
-        i += 1;
+    if ends.len() != 32 {
+        return false;
     }
-    kept
+    if 32 < count {
+        return false;
+    }
+    let up = columns::rising32(keys, count);
+    let no_keys = columns::zero_from32(keys, count);
+    let no_words = columns::zero_from64(words, count);
+    let no_ends = columns::zero_from64(ends, count);
+    let pairs = columns::under32(keys, 16777216);
+    let small = columns::under64(words, 281474976710656);
+    up & no_keys & no_words & no_ends & pairs & small
 }
 
-// How many discoveries there are.
-pub fn count_of(t: DiscoveryTable) -> usize
-    requires { ⌜ WellFormed t ⌝ }
-    ensures { λ r. ⌜ r ≡ length (rowsOf t) ⌝ }
+// Where the discovery of a pair stands, or would stand.
+pub fn place_of(
+    keys: &[u32],
+    words: &[u64],
+    ends: &[u64],
+    count: usize,
+    source: Nwk,
+    id: u8,
+) -> Place
+    requires { ⌜ WellFormed (inColumns (now keys) (now words) (now ends) count) ⌝ }
+    ensures { λ r. ⌜ r ≡ placeOf (take count (now (keys .entry))) (pairKey source id) ⌝ }
 {
-    t.count
+    let key = pair_key(source, id);
+    columns::index32(keys, count, key)
 }
 
-// The discovery at a place in the order, and nothing from the count on.
-pub fn entry_at(t: DiscoveryTable, i: usize) -> DiscoveryLookup
-    requires { ⌜ WellFormed t ⌝ }
-    ensures { λ r. ⌜ r ≡ looked (entryAt i (rowsOf t)) ⌝ }
+// The discovery in a place.
+pub fn entry_at(keys: &[u32], words: &[u64], ends: &[u64], i: usize) -> DiscoveryEntry
+    requires { ⌜ (i < length (now keys)) × (i < length (now words)) × (i < length (now ends)) ⌝ }
+    ensures { λ r. ⌜ r ≡ discoveryIn (getD (now (keys .entry)) i 0) (getD (now (words .entry)) i 0) (getD (now (ends .entry)) i 0) ⌝ }
 {
-    if t.count <= i {
-        return DiscoveryLookup::Missing;
-    }
-    let e = t.entries[i];
-    DiscoveryLookup::Found(e)
+    entry(keys[i], words[i], ends[i])
 }
 
 // The discovery of a source under a request id.
-pub fn find(t: DiscoveryTable, source: Nwk, id: u8) -> DiscoveryLookup
-    requires { ⌜ WellFormed t ⌝ }
-    ensures { λ r. ⌜ r ≡ looked (lookup discoveryKey (pairKey source id) (rowsOf t)) ⌝ }
+pub fn find(
+    keys: &[u32],
+    words: &[u64],
+    ends: &[u64],
+    count: usize,
+    source: Nwk,
+    id: u8,
+) -> DiscoveryLookup
+    requires { ⌜ WellFormed (inColumns (now keys) (now words) (now ends) count) ⌝ }
+    ensures { λ r. ⌜ r ≡ looked (lookup discoveryKey (pairKey source id) (rowsOf (inColumns (now (keys .entry)) (now (words .entry)) (now (ends .entry)) count))) ⌝ }
 {
-    let key = pair_key(source, id);
-    let place = flat_map::index_of(&t.keys, t.count, key);
+    let place = place_of(keys, words, ends, count, source, id);
     match place {
         Place::Found(i) => {
-            let e = t.entries[i];
+            let e = entry_at(keys, words, ends, i);
             DiscoveryLookup::Found(e)
         }
         Place::Missing(_) => DiscoveryLookup::Missing,
     }
 }
 
-// Whether there is room for a discovery under a pair: a free place, or one that it has already.
-pub fn has_room(t: DiscoveryTable, source: Nwk, id: u8) -> bool
-    requires { ⌜ WellFormed t ⌝ }
-    ensures { λ r. ⌜ r ≡ leb (countWith discoveryKey (pairKey source id) (rowsOf t)) 32 ⌝ }
+// The discovery at a place in the order, and nothing from the count on.
+pub fn at(keys: &[u32], words: &[u64], ends: &[u64], count: usize, i: usize) -> DiscoveryLookup
+    requires { ⌜ WellFormed (inColumns (now keys) (now words) (now ends) count) ⌝ }
+    ensures { λ r. ⌜ r ≡ looked (entryAt i (rowsOf (inColumns (now (keys .entry)) (now (words .entry)) (now (ends .entry)) count))) ⌝ }
 {
-    let key = pair_key(source, id);
-    let place = flat_map::index_of(&t.keys, t.count, key);
-    match place {
-        Place::Found(_) => true,
-        Place::Missing(_) => t.count < 32,
+    if count <= i {
+        return DiscoveryLookup::Missing;
     }
+    let e = entry_at(keys, words, ends, i);
+    DiscoveryLookup::Found(e)
 }
 
-// The table with a discovery under its pair: over the one that is there, or in a free place.
-pub fn put(t: DiscoveryTable, e: DiscoveryEntry) -> DiscoveryTable
-    requires { ⌜ WellFormed t × (countWith discoveryKey (discoveryKey e) (rowsOf t) ≤ 32) ⌝ }
-    ensures { λ r. ⌜ r ≡ tableOf (put discoveryKey e (rowsOf t)) ⌝ }
+// A discovery stored over the one of its pair, which stands in place i.
+pub fn set_at(
+    keys: &[u32],
+    words: &mut [u64],
+    ends: &mut [u64],
+    count: usize,
+    i: usize,
+    e: DiscoveryEntry,
+)
+    requires { ⌜ WellFormed (inColumns (now keys) (now words) (now ends) count) × (Found i ≡ placeOf (take count (now keys)) (discoveryKey e)) ⌝ }
+    ensures { λ _. ⌜
+        Holds (inColumns (now (keys .entry)) (now (words .exit)) (now (ends .exit)) count)
+        (put discoveryKey e (rowsOf (inColumns (now (keys .entry)) (now (words .entry)) (now (ends .entry)) count)))
+        ⌝ }
 {
+    let w = word_of(e);
+    words[i] = w;
+    ends[i] = e.expiration_time;
+}
+
+// A discovery put in at the place where its pair is missing.
+pub fn insert_at(
+    keys: &mut [u32],
+    words: &mut [u64],
+    ends: &mut [u64],
+    count: usize,
+    i: usize,
+    e: DiscoveryEntry,
+)
+    requires { ⌜ WellFormed (inColumns (now keys) (now words) (now ends) count) × (Missing i ≡ placeOf (take count (now keys)) (discoveryKey e)) × (count < 32) ⌝ }
+    ensures { λ _. ⌜
+        Holds (inColumns (now (keys .exit)) (now (words .exit)) (now (ends .exit)) (count + 1))
+        (put discoveryKey e (rowsOf (inColumns (now (keys .entry)) (now (words .entry)) (now (ends .entry)) count)))
+        ⌝ }
+{
+    let w = word_of(e);
     let source = e.source_address;
-    let id = e.route_request_id;
-    let key = pair_key(source, id);
-    let place = flat_map::index_of(&t.keys, t.count, key);
+    let key = pair_key(source, e.route_request_id);
+    columns::shift32(keys, i, key);
+    columns::shift64(words, i, w);
+    columns::shift64(ends, i, e.expiration_time);
+}
+
+// A discovery at the place of its pair: over the one that is there, or put in. How many discoveries there are after it.
+pub fn put_at(
+    keys: &mut [u32],
+    words: &mut [u64],
+    ends: &mut [u64],
+    count: usize,
+    place: Place,
+    e: DiscoveryEntry,
+) -> usize
+    requires { ⌜ WellFormed (inColumns (now keys) (now words) (now ends) count) × (place ≡ placeOf (take count (now keys)) (discoveryKey e)) × (countWith discoveryKey (discoveryKey e) (rowsOf (inColumns (now keys) (now words) (now ends) count)) ≤ 32) ⌝ }
+    ensures { λ r. ⌜
+        Holds (inColumns (now (keys .exit)) (now (words .exit)) (now (ends .exit)) r)
+        (put discoveryKey e (rowsOf (inColumns (now (keys .entry)) (now (words .entry)) (now (ends .entry)) count)))
+        ⌝ }
+{
     match place {
         Place::Found(i) => {
-            let mut u = t;
-            u.entries[i] = e;
-            u
+            set_at(keys, words, ends, count, i, e);
+            count
         }
-        Place::Missing(i) => insert_at(t, i, key, e),
+        Place::Missing(i) => {
+            insert_at(keys, words, ends, count, i, e);
+            count + 1
+        }
     }
 }
 
-// The discoveries whose expiration is after `now`.
-pub fn keep_live(t: DiscoveryTable, now: u64) -> DiscoveryTable
-    requires { ⌜ WellFormed t ⌝ }
-    ensures { λ r. ⌜ r ≡ tableOf (keep (live now) (rowsOf t)) ⌝ }
+// The discovery in a place taken out, all columns shifted left.
+pub fn remove_at(keys: &mut [u32], words: &mut [u64], ends: &mut [u64], i: usize)
+    requires { ⌜ (i < length (now keys)) × (i < length (now words)) × (i < length (now ends)) ⌝ }
+    ensures { λ _. ⌜
+        (now (keys .exit) ≡ shiftOut i 0 (now (keys .entry)))
+        × (now (words .exit) ≡ shiftOut i 0 (now (words .entry)))
+        × (now (ends .exit) ≡ shiftOut i 0 (now (ends .entry)))
+        ⌝ }
 {
-    let mut u = t;
+    columns::out32(keys, i);
+    columns::out64(words, i);
+    columns::out64(ends, i);
+}
+
+// Whether the time of a discovery is over.
+pub fn some_over(keys: &[u32], words: &[u64], ends: &[u64], count: usize, now_ms: u64) -> bool
+    requires { ⌜ WellFormed (inColumns (now keys) (now words) (now ends) count) ⌝ }
+    ensures { λ r. ⌜ r ≡ someFits (isOver «now_ms») (rowsOf (inColumns (now (keys .entry)) (now (words .entry)) (now (ends .entry)) count)) ⌝ }
+{
+    let mut over = false;
     let mut i: usize = 0;
-    while i < u.count {
-        let e = u.entries[i];
-        if now < e.expiration_time {
+    while i < count {
+        over = over | (ends[i] <= now_ms);
+        i += 1;
+    }
+    over
+}
+
+// The discoveries whose end is after `now_ms`, in place; how many they are.
+pub fn keep_live(
+    keys: &mut [u32],
+    words: &mut [u64],
+    ends: &mut [u64],
+    count: usize,
+    now_ms: u64,
+) -> usize
+    requires { ⌜ WellFormed (inColumns (now keys) (now words) (now ends) count) ⌝ }
+    ensures { λ r. ⌜
+        Holds (inColumns (now (keys .exit)) (now (words .exit)) (now (ends .exit)) r)
+        (keep (live «now_ms») (rowsOf (inColumns (now (keys .entry)) (now (words .entry)) (now (ends .entry)) count)))
+        ⌝ }
+{
+    let mut n = count;
+    let mut i: usize = 0;
+    while i < n {
+        if now_ms < ends[i] {
             i += 1;
         } else {
-            u = remove_at(u, i);
+            remove_at(keys, words, ends, i);
+            n -= 1;
         }
     }
-    u
+    n
 }
 
 // Whether a discovery names a destination.
-pub fn names(t: DiscoveryTable, destination: Nwk) -> bool
-    requires { ⌜ WellFormed t ⌝ }
-    ensures { λ r. ⌜ r ≡ someFits (names (destination .0)) (rowsOf t) ⌝ }
+pub fn names(keys: &[u32], words: &[u64], ends: &[u64], count: usize, destination: Nwk) -> bool
+    requires { ⌜ WellFormed (inColumns (now keys) (now words) (now ends) count) ⌝ }
+    ensures { λ r. ⌜ r ≡ someFits (names (destination .0)) (rowsOf (inColumns (now (keys .entry)) (now (words .entry)) (now (ends .entry)) count)) ⌝ }
 {
-    let n = t.count;
+    let wanted = destination.0 as u64;
+    let mut found = false;
     let mut i: usize = 0;
-    while i < n {
-        let e = t.entries[i];
-        if e.destination_address.0 == destination.0 {
-            return true;
-        }
+    while i < count {
+        found = found | (words[i] / 65536 % 65536 == wanted);
         i += 1;
     }
-    false
+    found
 }
 
-// The expiration of the first discovery that names a destination and is live.
-pub fn discovery_deadline(t: DiscoveryTable, destination: Nwk, now: u64) -> Deadline
-    requires { ⌜ WellFormed t ⌝ }
-    ensures { λ r. ⌜ r ≡ deadlineOf (first (awaits (destination .0) now) (rowsOf t)) ⌝ }
+// Whether a discovery that is live at `now_ms` names a destination.
+pub fn awaited(
+    keys: &[u32],
+    words: &[u64],
+    ends: &[u64],
+    count: usize,
+    destination: Nwk,
+    now_ms: u64,
+) -> bool
+    requires { ⌜ WellFormed (inColumns (now keys) (now words) (now ends) count) ⌝ }
+    ensures { λ r. ⌜ r ≡ someFits (awaits (destination .0) «now_ms») (rowsOf (inColumns (now (keys .entry)) (now (words .entry)) (now (ends .entry)) count)) ⌝ }
 {
-    let n = t.count;
+    let wanted = destination.0 as u64;
+    let mut found = false;
     let mut i: usize = 0;
-    while i < n {
-        let e = t.entries[i];
-        if (now < e.expiration_time) & (e.destination_address.0 == destination.0) {
+    while i < count {
+        found = found | ((now_ms < ends[i]) & (words[i] / 65536 % 65536 == wanted));
+        i += 1;
+    }
+    found
+}
+
+// The end of the first discovery that names a destination and is live at `now_ms`.
+pub fn discovery_deadline(
+    keys: &[u32],
+    words: &[u64],
+    ends: &[u64],
+    count: usize,
+    destination: Nwk,
+    now_ms: u64,
+) -> Deadline
+    requires { ⌜ WellFormed (inColumns (now keys) (now words) (now ends) count) ⌝ }
+    ensures { λ r. ⌜ r ≡ deadlineOf (first (awaits (destination .0) «now_ms») (rowsOf (inColumns (now (keys .entry)) (now (words .entry)) (now (ends .entry)) count))) ⌝ }
+{
+    let mut i: usize = 0;
+    while i < count {
+        let e = entry_at(keys, words, ends, i);
+        if (now_ms < e.expiration_time) & (e.destination_address.0 == destination.0) {
             return Deadline::At(e.expiration_time);
         }
         i += 1;

@@ -3,11 +3,12 @@
 use Prim.Native.Nat.{ℕ}
 use mathlib.Core.Bool.{Bool, true, false, not, _&&_}
 use mathlib.Core.List.{List}
-use mathlib.Core.Path.{_≡_, refl, ap, _∙_}
-use Rattle.flat_map.proofs.Fits.{fit-keep, keep-every}
+use mathlib.Core.Path.{_≡_, refl, sym, ap, _∙_}
+use Rattle.flat_map.proofs.Fits.{keep-every}
+use Rattle.flat_map.proofs.Left.{all-left}
 use Rattle.standard.specs.declared.RouteEntry.{RouteEntry}
 use Rattle.standard.specs.declared.DiscoveryEntry.{DiscoveryEntry}
-use Rattle.standard.specs.Discovery.{discoveryKey, live, names}
+use Rattle.standard.specs.Discovery.{live, isOver, names}
 use Rattle.standard.specs.Expiry.{stays, expired}
 use Rattle.standard.specs.Ordered.{keep}
 use Rattle.standard.specs.Query.{someFits}
@@ -15,15 +16,16 @@ use Rattle.standard.specs.Route.{isUnderway, routeKey}
 use Rattle.standard.specs.Tables.{Tables}
 use Rattle.route_table.specs.Table as route
 use Rattle.discovery_table.specs.Table as discovery
-use Rattle.search_tables.specs.declared.SearchTables.{SearchTables}
-use Rattle.search_tables.specs.Packed.{WellFormed, tablesOf, packed, Fits}
-use Rattle.search_tables.proofs.Packing.{search-fits, packed-formed, packed-rows}
+use Rattle.route_table.proofs.Rows as routes
+use Rattle.discovery_table.proofs.Rows as discoveries
+use Rattle.search_tables.specs.Packed.{SearchTables, WellFormed, tablesOf, Fits, Holds}
+use Rattle.search_tables.proofs.Packing.{both-hold}
 
 pub expired-fits : (now : ℕ) (t : Tables) → Fits t → Fits (expired now t)
 unfolding expired
 expired-fits now t h = record {
-  routes = fit-keep 64 routeKey route.blankRoute (t .routes) (h .routes) (stays (t .discoveries) (keep (live now) (t .discoveries)));
-  discoveries = fit-keep 32 discoveryKey discovery.blankDiscovery (t .discoveries) (h .discoveries) (live now);
+  routes = routes.fits-keep (t .routes) (h .routes) (stays (t .discoveries) (keep (live now) (t .discoveries)));
+  discoveries = discoveries.fits-keep (t .discoveries) (h .discoveries) (live now);
 }
 
 -- a route for which no discovery went
@@ -42,10 +44,15 @@ nothing-over now t e = λ z. record { routes = whole z; discoveries = e z } wher
       ap (λ (left : List DiscoveryEntry). keep (stays (t .discoveries) left) (t .routes)) e
       ∙ keep-every (stays (t .discoveries) (t .discoveries)) (waits-on (t .discoveries)) (t .routes)
 
--- of the tables that the expiry leaves: they are well formed, and their rows are the definition's
-module _ (now : ℕ) (t : SearchTables) (w : WellFormed t) (left : SearchTables) (is : left ≡ packed (expired now (tablesOf t))) where
-  pub left-formed : WellFormed left
-  left-formed = rw is (packed-formed (expired now (tablesOf t)) (expired-fits now (tablesOf t) (search-fits t w)))
+-- asked of the discoveries
+pub none-over : (now : ℕ) (t : Tables) → someFits (isOver now) (t .discoveries) ≡ false → expired now t ≡ t
+none-over now t e = nothing-over now t (all-left (live now) (t .discoveries) e)
 
-  pub left-rows : tablesOf left ≡ expired now (tablesOf t)
-  left-rows = ap tablesOf is ∙ packed-rows (expired now (tablesOf t)) (expired-fits now (tablesOf t) (search-fits t w))
+-- tables where none is over hold what expiry would leave
+pub holds-all : (now : ℕ) (s : SearchTables) → WellFormed s → someFits (isOver now) (tablesOf s .discoveries) ≡ false → Holds s (expired now (tablesOf s))
+holds-all now s w e = record { formed = w; rows = sym (none-over now (tablesOf s) e) }
+
+-- routes and discoveries that are left, side by side
+pub both-left : (now : ℕ) (t : Tables) (s : SearchTables) → route.Holds (s .routes) (expired now t .routes) → discovery.Holds (s .discoveries) (keep (live now) (t .discoveries)) → Holds s (expired now t)
+unfolding expired
+both-left now t s r d = both-hold s (expired now t) r d

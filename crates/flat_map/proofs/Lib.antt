@@ -16,3 +16,4 @@ pub mod Every
 pub mod Lists
 pub mod Filter
 pub mod Kept
+pub mod Left

@@ -11,7 +11,7 @@ ghost use Rattle.gateway.specs.Door.{newStatus, newImage, storeLeft, mad
 pub extern "C" fn warpteasel_image_length() -> usize
     ensures { λ r. ⌜ r ≡ imageLength ⌝ }
 {
-    5450
+    cells::LENGTH
 }
 
 // How many numbers an answer needs: its kind, its count, and up to 256 values.
@@ -28,7 +28,7 @@ pub extern "C" fn warpteasel_new(image: &mut [u64]) -> u64
     ensures { λ r. ⌜ r ≡ newStatus (now (image .entry)) ⌝ }
     ensures { λ _. ⌜ now (image .exit) ≡ newImage (now (image .entry)) ⌝ }
 {
-    if image.len() != 5450 {
+    if image.len() != cells::LENGTH {
         return 8;
     }
     let world = world::fresh();

@@ -1,5 +1,5 @@
 -- Which numbers are an image: the length, the mark and the version are right, and each number fits its field.
--- Counts and keys may be any number: a count or key that is wrong is left to the call, which refuses the state (refusal 10).
+-- Counts, and the keys of neighbours, may be any number: a count or key that is wrong is left to the call, which refuses the state (refusal 10).
 -- Assumes nothing.
 use Prim.Native.Nat.{ℕ, _+_, _-_, _%_}
 use mathlib.Core.Bool.{Bool, true, _&&_}
@@ -7,7 +7,7 @@ use mathlib.Core.List.{List, [], _∷_}
 use lib.Dec.{eqb, leb}
 use lib.ListN.{length, take, drop, getD}
 use Rattle.numbers.specs.Read.{numberAt}
-use Rattle.cells.specs.Layout.{imageMark, imageVersion, routesPlace, routeRowsPlace, discoveriesPlace, discoveryRowsPlace, recordsPlace, recordRowsPlace, neighborsPlace, neighborRowsPlace, waitingPlace, waitingRowsPlace, storePlace, imageLength}
+use Rattle.cells.specs.Layout.{imageMark, imageVersion, routesPlace, routeKeysPlace, routeWordsPlace, routeUsagePlace, discoveriesPlace, discoveryKeysPlace, discoveryWordsPlace, recordKeysPlace, recordLengthsPlace, neighborsPlace, neighborRowsPlace, waitingPlace, waitingRowsPlace, storePlace, imageLength}
 
 -- the numbers from place a up to place e
 abbrev pub part : ℕ → ℕ → List ℕ → List ℕ
@@ -18,21 +18,17 @@ unfoldable pub within : List ℕ → ℕ → List ℕ → Bool
 within limits i [] = true
 within limits i (x ∷ xs) = leb x (getD limits (i % length limits) 0) && within limits (i + 1) xs
 
--- the two trigger counters and the request id: bytes
-unfoldable pub counterLimits : List ℕ
-counterLimits = 255 ∷ []
+-- bytes: the two trigger counters, the request id, and the lengths of records
+unfoldable pub byteLimits : List ℕ
+byteLimits = 255 ∷ []
 
--- a route: address, status, four flags, address, byte, 32 bits, byte
-unfoldable pub routeLimits : List ℕ
-routeLimits = 65535 ∷ 3 ∷ 1 ∷ 1 ∷ 1 ∷ 1 ∷ 65535 ∷ 255 ∷ 4294967295 ∷ 255 ∷ []
+-- addresses: the keys of routes and records, and the relay store
+unfoldable pub addressLimits : List ℕ
+addressLimits = 65535 ∷ []
 
--- a discovery: address, byte, address, two bytes, a moment, address
-unfoldable pub discoveryLimits : List ℕ
-discoveryLimits = 65535 ∷ 255 ∷ 65535 ∷ 255 ∷ 255 ∷ 18446744073709551615 ∷ 65535 ∷ []
-
--- a record: address, byte
-unfoldable pub recordLimits : List ℕ
-recordLimits = 65535 ∷ 255 ∷ []
+-- numbers of 32 bits: the usage of routes, and the keys of discoveries
+unfoldable pub longLimits : List ℕ
+longLimits = 4294967295 ∷ []
 
 -- a neighbour: extended address, address, device type, flag, 16 bits, two times, relationship and a byte; five bytes of samples; a byte, a moment, two of 32 bits, a flag, two of 32 bits; a moment and five bytes
 unfoldable pub neighborLimits : List ℕ
@@ -42,13 +38,9 @@ neighborLimits = 18446744073709551615 ∷ 65535 ∷ 2 ∷ 1 ∷ 65535 ∷ 184467
 unfoldable pub waitingLimits : List ℕ
 waitingLimits = 65535 ∷ 255 ∷ 255 ∷ 255 ∷ 255 ∷ 255 ∷ []
 
--- the relay store: addresses
-unfoldable pub storeLimits : List ℕ
-storeLimits = 65535 ∷ []
-
--- the rows of the three routing tables
+-- the columns of the three routing tables; words and ends may be any number
 unfoldable pub routingFits : List ℕ → Bool
-routingFits xs = within routeLimits 0 (part routeRowsPlace discoveriesPlace xs) && (within discoveryLimits 0 (part discoveryRowsPlace recordsPlace xs) && within recordLimits 0 (part recordRowsPlace neighborsPlace xs))
+routingFits xs = within addressLimits 0 (part routeKeysPlace routeWordsPlace xs) && (within longLimits 0 (part routeUsagePlace discoveriesPlace xs) && (within longLimits 0 (part discoveryKeysPlace discoveryWordsPlace xs) && (within addressLimits 0 (part recordKeysPlace recordLengthsPlace xs) && within byteLimits 0 (part recordLengthsPlace neighborsPlace xs))))
 
 -- the rows of the neighbours and of the waiting samples
 unfoldable pub neighborsFit : List ℕ → Bool
@@ -56,8 +48,8 @@ neighborsFit xs = within neighborLimits 0 (part neighborRowsPlace waitingPlace x
 
 -- the mark, the version and the counters
 unfoldable pub headFits : List ℕ → Bool
-headFits xs = eqb (numberAt xs 0) imageMark && (eqb (numberAt xs 1) imageVersion && within counterLimits 0 (part 2 routesPlace xs))
+headFits xs = eqb (numberAt xs 0) imageMark && (eqb (numberAt xs 1) imageVersion && within byteLimits 0 (part 2 routesPlace xs))
 
 -- a good image
 unfoldable pub goodImage : List ℕ → Bool
-goodImage xs = eqb (length xs) imageLength && (headFits xs && (routingFits xs && (neighborsFit xs && within storeLimits 0 (part storePlace imageLength xs))))
+goodImage xs = eqb (length xs) imageLength && (headFits xs && (routingFits xs && (neighborsFit xs && within addressLimits 0 (part storePlace imageLength xs))))

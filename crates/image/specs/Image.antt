@@ -1,28 +1,37 @@
 -- The world that an image holds, and the numbers that a world is written as, in the layout's order; what is put into an image, and an answer's numbers.
 -- Assumes nothing.
-use Prim.Native.Nat.{ℕ, _+_, _%_}
+use Prim.Native.Nat.{ℕ}
 use mathlib.Core.Bool.{cond}
 use mathlib.Core.List.{List, [], _∷_, _++_}
 use lib.Dec.{eqb}
 use lib.Seq.{sets}
 use Rattle.numbers.specs.declared.Answer.{Answer}
-use Rattle.numbers.specs.Read.{numberAt, byteAt, listed}
-use Rattle.cells.specs.Layout.{imageMark, imageVersion, storePlace}
-use Rattle.route_image.specs.Routes.{routesAt, discoveriesAt, recordsAt, routesNumbers, discoveriesNumbers, recordsNumbers}
+use Rattle.numbers.specs.Read.{numberAt, byteAt}
+use Rattle.cells.specs.Layout.{imageMark, imageVersion, routesPlace, routeKeysPlace, routeWordsPlace, routeUsagePlace, discoveriesPlace, discoveryKeysPlace, discoveryWordsPlace, discoveryEndsPlace, recordsPlace, recordKeysPlace, recordLengthsPlace, storePlace}
+use Rattle.cells.specs.Keys.{keysAt, cutAt}
 use Rattle.neighbor_image.specs.Neighbors.{neighborsAt, waitingAt, waitingTableNumbers}
 use Rattle.neighbor_image.specs.Neighbors as tables
 use Rattle.routing.specs.declared.Routing.{Routing}
 use Rattle.neighbors.specs.declared.Neighbors.{Neighbors}
 use Rattle.world.specs.declared.World.{World}
 
+-- the routing state, each number of a column cut to its width
 unfoldable pub routingIn : List ℕ → Routing
 routingIn xs = record {
   «mtorr_route_errors» = byteAt xs 2;
   «mtorr_delivery_failures» = byteAt xs 3;
-  «route_table» = routesAt xs;
-  «discovery_table» = discoveriesAt xs;
-  «route_record_table» = recordsAt xs;
   «request_sequence_number» = byteAt xs 4;
+  «route_keys» = cutAt 65536 xs routeKeysPlace 64;
+  «route_words» = keysAt xs routeWordsPlace 64;
+  «route_usage» = cutAt 4294967296 xs routeUsagePlace 64;
+  routes = numberAt xs routesPlace;
+  «discovery_keys» = cutAt 4294967296 xs discoveryKeysPlace 32;
+  «discovery_words» = keysAt xs discoveryWordsPlace 32;
+  «discovery_ends» = keysAt xs discoveryEndsPlace 32;
+  discoveries = numberAt xs discoveriesPlace;
+  «record_keys» = cutAt 65536 xs recordKeysPlace 64;
+  «record_lengths» = cutAt 256 xs recordLengthsPlace 64;
+  records = numberAt xs recordsPlace;
 }
 
 unfoldable pub neighborsIn : List ℕ → Neighbors
@@ -34,19 +43,29 @@ worldIn xs = record { routing = routingIn xs; neighbors = neighborsIn xs }
 
 -- the relay store's 2,048 addresses
 unfoldable pub storeIn : List ℕ → List ℕ
-storeIn xs = listed (λ i. numberAt xs (storePlace + i) % 65536) 0 2048
+storeIn xs = cutAt 65536 xs storePlace 2048
 
 -- the mark, the version, the counters and the request id
 abbrev pub headNumbers : Routing → List ℕ
 headNumbers r = imageMark ∷ imageVersion ∷ r .«mtorr_route_errors» ∷ r .«mtorr_delivery_failures» ∷ r .«request_sequence_number» ∷ []
 
+-- each routing table: its count and its columns
+unfoldable pub routesNumbers : Routing → List ℕ
+routesNumbers r = r .routes ∷ r .«route_keys» ++ (r .«route_words» ++ r .«route_usage»)
+
+unfoldable pub discoveriesNumbers : Routing → List ℕ
+discoveriesNumbers r = r .discoveries ∷ r .«discovery_keys» ++ (r .«discovery_words» ++ r .«discovery_ends»)
+
+unfoldable pub recordsNumbers : Routing → List ℕ
+recordsNumbers r = r .records ∷ r .«record_keys» ++ r .«record_lengths»
+
 unfoldable pub routingNumbers : Routing → List ℕ
-routingNumbers r = headNumbers r ++ (routesNumbers (r .«route_table») ++ (discoveriesNumbers (r .«discovery_table») ++ recordsNumbers (r .«route_record_table»)))
+routingNumbers r = headNumbers r ++ (routesNumbers r ++ (discoveriesNumbers r ++ recordsNumbers r))
 
 unfoldable pub neighborsNumbers : Neighbors → List ℕ
 neighborsNumbers s = tables.neighborsNumbers (s .table) ++ waitingTableNumbers (s .«pending_lqas»)
 
--- a whole world, from place 0 on: 3,402 numbers, after which the relay store stands
+-- a whole world, from place 0 on: 2,666 numbers, after which the relay store stands
 unfoldable pub worldNumbers : World → List ℕ
 worldNumbers w = routingNumbers (w .routing) ++ neighborsNumbers (w .neighbors)
 

@@ -8,16 +8,16 @@ ghost use Rattle.image.specs.Good.{within, headFits, routingFits, neighb
 // What stands first in every image, and the version of the layout.
 pub const MARK: u64 = 2002874992;
 
-pub const VERSION: u64 = 1;
+pub const VERSION: u64 = 2;
 
-const COUNTERS: [u64; 1] = [255];
+// The limit of a byte, of an address and of a number of 32 bits.
+const BYTE: [u64; 1] = [255];
 
-const ROUTE: [u64; 10] = [65535, 3, 1, 1, 1, 1, 65535, 255, 4294967295, 255];
+const ADDRESS: [u64; 1] = [65535];
 
-const DISCOVERY: [u64; 7] = [65535, 255, 65535, 255, 255, 18446744073709551615, 65535];
+const LONG: [u64; 1] = [4294967295];
 
-const RECORD: [u64; 2] = [65535, 255];
-
+// The limits of a neighbour, number by number, and of a waiting entry.
 const NEIGHBOR: [u64; 27] = [
     18446744073709551615,
     65535,
@@ -50,8 +50,6 @@ const NEIGHBOR: [u64; 27] = [
 
 const WAITING: [u64; 6] = [65535, 255, 255, 255, 255, 255];
 
-const STORE: [u64; 1] = [65535];
-
 // Whether each number is at most its limit; the limits come round again for each row.
 fn fits(rows: &[u64], limits: &[u64]) -> bool
     requires { ⌜ 0 < length (now limits) ⌝ }
@@ -74,19 +72,21 @@ fn head_fits(image: &[u64]) -> bool
 {
     let mark = numbers::at(image, 0);
     let version = numbers::at(image, 1);
-    let counters = fits(&image[2..5], &COUNTERS);
+    let counters = fits(&image[2..cells::ROUTES], &BYTE);
     (mark == MARK) & ((version == VERSION) & counters)
 }
 
-// The rows of the three routing tables.
+// The columns of the three routing tables; words and ends may be any number.
 fn routing_fits(image: &[u64]) -> bool
     requires { ⌜ length (now image) ≡ imageLength ⌝ }
     ensures { λ r. ⌜ r ≡ routingFits (now (image .entry)) ⌝ }
 {
-    let routes = fits(&image[70..710], &ROUTE);
-    let discoveries = fits(&image[743..967], &DISCOVERY);
-    let records = fits(&image[1032..1160], &RECORD);
-    routes & (discoveries & records)
+    let route_keys = fits(&image[cells::ROUTE_KEYS..cells::ROUTE_WORDS], &ADDRESS);
+    let route_usage = fits(&image[cells::ROUTE_USAGE..cells::DISCOVERIES], &LONG);
+    let discovery_keys = fits(&image[cells::DISCOVERY_KEYS..cells::DISCOVERY_WORDS], &LONG);
+    let record_keys = fits(&image[cells::RECORD_KEYS..cells::RECORD_LENGTHS], &ADDRESS);
+    let record_lengths = fits(&image[cells::RECORD_LENGTHS..cells::NEIGHBORS], &BYTE);
+    route_keys & (route_usage & (discovery_keys & (record_keys & record_lengths)))
 }
 
 // The rows of the neighbours and of the waiting samples.
@@ -94,8 +94,8 @@ fn neighbors_fit(image: &[u64]) -> bool
     requires { ⌜ length (now image) ≡ imageLength ⌝ }
     ensures { λ r. ⌜ r ≡ neighborsFit (now (image .entry)) ⌝ }
 {
-    let neighbors = fits(&image[1225..2953], &NEIGHBOR);
-    let waiting = fits(&image[3018..3402], &WAITING);
+    let neighbors = fits(&image[cells::NEIGHBOR_ROWS..cells::WAITING], &NEIGHBOR);
+    let waiting = fits(&image[cells::WAITING_ROWS..cells::STORE], &WAITING);
     neighbors & waiting
 }
 
@@ -103,12 +103,12 @@ fn neighbors_fit(image: &[u64]) -> bool
 pub fn good(image: &[u64]) -> bool
     ensures { λ r. ⌜ r ≡ goodImage (now (image .entry)) ⌝ }
 {
-    if image.len() != 5450 {
+    if image.len() != cells::LENGTH {
         return false;
     }
     let head = head_fits(image);
     let routing = routing_fits(image);
     let neighbors = neighbors_fit(image);
-    let store = fits(&image[3402..5450], &STORE);
+    let store = fits(&image[cells::STORE..cells::LENGTH], &ADDRESS);
     head & (routing & (neighbors & store))
 }

@@ -1,6 +1,7 @@
 // The world as an image of numbers: read, judged, and written.
 mod good;
 pub mod store;
+mod tables;
 
 use neighbors::Neighbors;
 use numbers::Answer;
@@ -25,16 +26,32 @@ fn routing_in(image: &[u64]) -> Routing
     let mtorr_route_errors = numbers::byte(image, 2);
     let mtorr_delivery_failures = numbers::byte(image, 3);
     let request_sequence_number = numbers::byte(image, 4);
-    let route_table = route_image::routes::read_routes(image);
-    let discovery_table = route_image::discoveries::read_discoveries(image);
-    let route_record_table = route_image::records::read_records(image);
+    let route_keys = cells::column16_64(image, cells::ROUTE_KEYS);
+    let route_words = cells::keys_64(image, cells::ROUTE_WORDS);
+    let route_usage = cells::column32_64(image, cells::ROUTE_USAGE);
+    let routes = numbers::at(image, cells::ROUTES) as usize;
+    let discovery_keys = cells::column32_32(image, cells::DISCOVERY_KEYS);
+    let discovery_words = cells::keys_32(image, cells::DISCOVERY_WORDS);
+    let discovery_ends = cells::keys_32(image, cells::DISCOVERY_ENDS);
+    let discoveries = numbers::at(image, cells::DISCOVERIES) as usize;
+    let record_keys = cells::column16_64(image, cells::RECORD_KEYS);
+    let record_lengths = cells::column8_64(image, cells::RECORD_LENGTHS);
+    let records = numbers::at(image, cells::RECORDS) as usize;
     Routing {
         mtorr_route_errors,
         mtorr_delivery_failures,
-        route_table,
-        discovery_table,
-        route_record_table,
         request_sequence_number,
+        route_keys,
+        route_words,
+        route_usage,
+        routes,
+        discovery_keys,
+        discovery_words,
+        discovery_ends,
+        discoveries,
+        record_keys,
+        record_lengths,
+        records,
     }
 }
 
@@ -72,13 +89,10 @@ fn write_routing(image: &mut [u64], routing: Routing)
         routing.mtorr_delivery_failures as u64,
         routing.request_sequence_number as u64,
     ];
-    let route_table = routing.route_table;
-    let discovery_table = routing.discovery_table;
-    let record_table = routing.route_record_table;
     cells::put_each(image, 0, &head);
-    route_image::routes::write_routes(image, route_table);
-    route_image::discoveries::write_discoveries(image, discovery_table);
-    route_image::records::write_records(image, record_table);
+    tables::write_routes(image, routing);
+    tables::write_discoveries(image, routing);
+    tables::write_records(image, routing);
 }
 
 // The neighbours put into an image.

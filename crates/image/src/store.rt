@@ -14,7 +14,7 @@ pub fn read_store(image: &[u64]) -> Store
     let mut store = [0; 2048];
     let mut i: usize = 0;
     while i < 2048 {
-        store[i] = (numbers::at(image, 3402 + i) % 65536) as u16;
+        store[i] = (numbers::at(image, cells::STORE + i) % 65536) as u16;
         i += 1;
     }
     store
@@ -24,14 +24,5 @@ pub fn read_store(image: &[u64]) -> Store
 pub fn write_store(store: &[u16], image: &mut [u64])
     ensures { λ _. ⌜ now (image .exit) ≡ sets (now (image .entry)) storePlace (now (store .entry)) ⌝ }
 {
-    let mut at: usize = 3402;
-    let mut i: usize = 0;
-    while i < store.len() {
-        if image.len() <= at {
-            return;
-        }
-        image[at] = store[i] as u64;
-        at += 1;
-        i += 1;
-    }
+    cells::put_each16(image, cells::STORE, store);
 }

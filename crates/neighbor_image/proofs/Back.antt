@@ -11,6 +11,7 @@ use Rattle.neighbor_table.specs.declared.NeighborEntry.{NeighborEntry}
 use Rattle.neighbor_table.specs.declared.NeighborTable.{NeighborTable}
 use Rattle.waiting_table.specs.declared.WaitingEntry.{WaitingEntry}
 use Rattle.waiting_table.specs.declared.WaitingTable.{WaitingTable}
+use Rattle.cells.specs.Layout.{neighborsPlace, neighborRowsPlace, waitingPlace, waitingRowsPlace}
 use Rattle.neighbor_values.specs.Kinds.{deviceTypeOf, relationshipOf}
 use Rattle.neighbor_values.specs.Reading.{samplesAt, neighborAt, waitingEntryAt}
 use Rattle.neighbor_values.specs.Values.{neighborNumbers, nameNumbers, samplesNumbers, linkNumbers, routerNumbers, waitingNumbers}
@@ -101,23 +102,23 @@ waiting-entry-back e xs rest b h f = λ z. record {
 }
 
 -- a whole table
-pub neighbors-back : (t : NeighborTable) (xs rest : List ℕ) → drop 1160 xs ≡ neighborsNumbers t ++ rest → length (t .keys) ≡ 64 → length (t .entries) ≡ 64 → Each NeighborFits (t .entries) → neighborsAt xs ≡ t
+pub neighbors-back : (t : NeighborTable) (xs rest : List ℕ) → drop neighborsPlace xs ≡ neighborsNumbers t ++ rest → length (t .keys) ≡ 64 → length (t .entries) ≡ 64 → Each NeighborFits (t .entries) → neighborsAt xs ≡ t
 unfolding neighborsAt neighborsNumbers
 neighbors-back t xs rest h k l a =
     let rows = flatMap neighborNumbers (t .entries) in
     λ z. record {
-      keys = keys-back (t .keys) xs (rows ++ rest) 1161 64 (keys-part (t .count) (t .keys) rows xs rest 1160 h) k z;
-      entries = rows-back neighborNumbers 27 neighborAt NeighborFits (λ e. refl) neighbor-back (t .entries) xs rest 1225 64 (rows-part (t .count) (t .keys) rows xs rest 1160 h 64 k) l a z;
-      count = first-there xs (neighborsNumbers t ++ rest) 1160 h z;
+      keys = keys-back (t .keys) xs (rows ++ rest) (neighborsPlace + 1) 64 (keys-part (t .count) (t .keys) rows xs rest neighborsPlace h) k z;
+      entries = rows-back neighborNumbers 27 neighborAt NeighborFits (λ e. refl) neighbor-back (t .entries) xs rest neighborRowsPlace 64 (rows-part (t .count) (t .keys) rows xs rest neighborsPlace h 64 k) l a z;
+      count = first-there xs (neighborsNumbers t ++ rest) neighborsPlace h z;
     }
 
 -- a whole table
-pub waiting-back : (t : WaitingTable) (xs rest : List ℕ) → drop 2953 xs ≡ waitingTableNumbers t ++ rest → length (t .keys) ≡ 64 → length (t .entries) ≡ 64 → Each WaitingFits (t .entries) → waitingAt xs ≡ t
+pub waiting-back : (t : WaitingTable) (xs rest : List ℕ) → drop waitingPlace xs ≡ waitingTableNumbers t ++ rest → length (t .keys) ≡ 64 → length (t .entries) ≡ 64 → Each WaitingFits (t .entries) → waitingAt xs ≡ t
 unfolding waitingAt waitingTableNumbers
 waiting-back t xs rest h k l a =
     let rows = flatMap waitingNumbers (t .entries) in
     λ z. record {
-      keys = keys-back (t .keys) xs (rows ++ rest) 2954 64 (keys-part (t .count) (t .keys) rows xs rest 2953 h) k z;
-      entries = rows-back waitingNumbers 6 waitingEntryAt WaitingFits (λ e. refl) waiting-entry-back (t .entries) xs rest 3018 64 (rows-part (t .count) (t .keys) rows xs rest 2953 h 64 k) l a z;
-      count = first-there xs (waitingTableNumbers t ++ rest) 2953 h z;
+      keys = keys-back (t .keys) xs (rows ++ rest) (waitingPlace + 1) 64 (keys-part (t .count) (t .keys) rows xs rest waitingPlace h) k z;
+      entries = rows-back waitingNumbers 6 waitingEntryAt WaitingFits (λ e. refl) waiting-entry-back (t .entries) xs rest waitingRowsPlace 64 (rows-part (t .count) (t .keys) rows xs rest waitingPlace h 64 k) l a z;
+      count = first-there xs (waitingTableNumbers t ++ rest) waitingPlace h z;
     }

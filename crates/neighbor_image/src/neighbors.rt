@@ -7,6 +7,7 @@ ghost use mathlib.Core.List.{flatMap};
 ghost use Prim.Native.Nat.{_<_, _+_, _*_};
 ghost use lib.Seq.{sets};
 ghost use Rattle.numbers.specs.Read.{listed};
+ghost use Rattle.cells.specs.Layout.{neighborsPlace, neighborRowsPlace};
 ghost use Rattle.neighbor_values.specs.Reading.{neighborAt};
 ghost use Rattle.neighbor_values.specs.Values.{neighborNumbers};
 ghost use Rattle.neighbor_values.specs.Values.{nameNumbers, samplesNumbers, linkNumbers, routerNumbers};
@@ -96,12 +97,12 @@ fn write_neighbor(image: &mut [u64], base: usize, e: NeighborEntry)
 
 // The table with every row read from the image.
 fn neighbor_rows(image: &[u64], table: NeighborTable) -> NeighborTable
-    ensures { λ r. ⌜ r ≡ record { keys = table .keys; entries = listed (λ i. neighborAt (now (image .entry)) (1225 + i * 27)) 0 64; count = table .count } ⌝ }
+    ensures { λ r. ⌜ r ≡ record { keys = table .keys; entries = listed (λ i. neighborAt (now (image .entry)) (neighborRowsPlace + i * 27)) 0 64; count = table .count } ⌝ }
 {
     let mut t = table;
     let mut i: usize = 0;
     while i < 64 {
-        let e = neighbor_values::neighbor_at(image, 1225 + i * 27);
+        let e = neighbor_values::neighbor_at(image, cells::NEIGHBOR_ROWS + i * 27);
         t.entries[i] = e;
         i += 1;
     }
@@ -110,12 +111,12 @@ fn neighbor_rows(image: &[u64], table: NeighborTable) -> NeighborTable
 
 // Every row of a table put in turn.
 fn write_neighbor_rows(image: &mut [u64], t: NeighborTable)
-    ensures { λ _. ⌜ now (image .exit) ≡ sets (now (image .entry)) 1225 (flatMap neighborNumbers (t .entries)) ⌝ }
+    ensures { λ _. ⌜ now (image .exit) ≡ sets (now (image .entry)) neighborRowsPlace (flatMap neighborNumbers (t .entries)) ⌝ }
 {
     let mut i: usize = 0;
     while i < 64 {
         let e = t.entries[i];
-        write_neighbor(image, 1225 + i * 27, e);
+        write_neighbor(image, cells::NEIGHBOR_ROWS + i * 27, e);
         i += 1;
     }
 }
@@ -133,7 +134,7 @@ pub fn read_neighbors(image: &[u64]) -> NeighborTable
 
 // A table written to an image.
 pub fn write_neighbors(image: &mut [u64], t: NeighborTable)
-    ensures { λ _. ⌜ now (image .exit) ≡ sets (now (image .entry)) 1160 (neighborsNumbers t) ⌝ }
+    ensures { λ _. ⌜ now (image .exit) ≡ sets (now (image .entry)) neighborsPlace (neighborsNumbers t) ⌝ }
 {
     let count = t.count;
     let head = [count as u64];

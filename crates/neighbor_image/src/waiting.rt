@@ -7,6 +7,7 @@ ghost use mathlib.Core.List.{flatMap};
 ghost use Prim.Native.Nat.{_<_, _+_, _*_};
 ghost use lib.Seq.{sets};
 ghost use Rattle.numbers.specs.Read.{listed};
+ghost use Rattle.cells.specs.Layout.{waitingPlace, waitingRowsPlace};
 ghost use Rattle.neighbor_values.specs.Reading.{waitingEntryAt};
 ghost use Rattle.neighbor_values.specs.Values.{waitingNumbers};
 ghost use Rattle.neighbor_image.specs.Neighbors.{waitingAt, waitingTableNumbers};
@@ -24,12 +25,12 @@ fn write_waiting_entry(image: &mut [u64], base: usize, e: WaitingEntry)
 
 // The table with every row read from the image.
 fn waiting_entry_rows(image: &[u64], table: WaitingTable) -> WaitingTable
-    ensures { λ r. ⌜ r ≡ record { keys = table .keys; entries = listed (λ i. waitingEntryAt (now (image .entry)) (3018 + i * 6)) 0 64; count = table .count } ⌝ }
+    ensures { λ r. ⌜ r ≡ record { keys = table .keys; entries = listed (λ i. waitingEntryAt (now (image .entry)) (waitingRowsPlace + i * 6)) 0 64; count = table .count } ⌝ }
 {
     let mut t = table;
     let mut i: usize = 0;
     while i < 64 {
-        let e = neighbor_values::waiting_entry_at(image, 3018 + i * 6);
+        let e = neighbor_values::waiting_entry_at(image, cells::WAITING_ROWS + i * 6);
         t.entries[i] = e;
         i += 1;
     }
@@ -38,12 +39,12 @@ fn waiting_entry_rows(image: &[u64], table: WaitingTable) -> WaitingTable
 
 // Every row of a table put in turn.
 fn write_waiting_entry_rows(image: &mut [u64], t: WaitingTable)
-    ensures { λ _. ⌜ now (image .exit) ≡ sets (now (image .entry)) 3018 (flatMap waitingNumbers (t .entries)) ⌝ }
+    ensures { λ _. ⌜ now (image .exit) ≡ sets (now (image .entry)) waitingRowsPlace (flatMap waitingNumbers (t .entries)) ⌝ }
 {
     let mut i: usize = 0;
     while i < 64 {
         let e = t.entries[i];
-        write_waiting_entry(image, 3018 + i * 6, e);
+        write_waiting_entry(image, cells::WAITING_ROWS + i * 6, e);
         i += 1;
     }
 }
@@ -61,7 +62,7 @@ pub fn read_waiting(image: &[u64]) -> WaitingTable
 
 // A table written to an image.
 pub fn write_waiting(image: &mut [u64], t: WaitingTable)
-    ensures { λ _. ⌜ now (image .exit) ≡ sets (now (image .entry)) 2953 (waitingTableNumbers t) ⌝ }
+    ensures { λ _. ⌜ now (image .exit) ≡ sets (now (image .entry)) waitingPlace (waitingTableNumbers t) ⌝ }
 {
     let count = t.count;
     let head = [count as u64];

@@ -9,12 +9,13 @@ use Rattle.standard.specs.declared.RecordRoute.{RecordRoute}
 use Rattle.standard.specs.declared.RecordRoute.the-variants as record-route
 use Rattle.standard.specs.declared.RelayList.{RelayList}
 use Rattle.standard.specs.Calls.{hopAt}
-use Rattle.route_table.specs.Table.{rowsOf}
 use Rattle.relay_store.specs.Store.{agrees}
 use Rattle.route_calls.specs.declared.HopAnswer.{HopAnswer}
 use Rattle.route_calls.specs.declared.HopAnswer.the-variants as hop
 use Rattle.route_calls.specs.Answer.{hopAnswer}
 use Rattle.route_record.specs.Answer.{wayTo}
+use Rattle.routing.specs.State.{recordTable}
+use Rattle.routing.specs.Routes.{routesIn}
 use Rattle.routing.specs.declared.Routing.{Routing}
 use Rattle.routing.specs.declared.RouteToOutcome.{RouteToOutcome}
 use Rattle.routing.specs.declared.HopOutcome.{HopOutcome}
@@ -44,7 +45,7 @@ byHop h (hop-outcome.Hop n) = hopTo h n
 
 -- a route query that gives none has asked the Active route
 asked-both : (r : Routing) (h : NwkHeader) (relays : RelayList) (w : RecordRoute) (x : HopAnswer)
-    → hopAnswer (hopAt (h .destination .0) (rowsOf (r .«route_table»))) ≡ x
+    → hopAnswer (hopAt (h .destination .0) (routesIn r)) ≡ x
     → firstOf (fromWay h relays (answerBy r (h .destination) w) ∷ fromHop h x ∷ none ∷ []) (undiscovered h)
     ≡ firstOf (fromWay h relays (answerBy r (h .destination) w) ∷ []) (undiscovered h)
 asked-both r h relays record-route.Direct x e = refl
@@ -61,7 +62,7 @@ asked-one h hop.Unknown = refl
 module _ (r : Routing) (n : Neighbors) (h : NwkHeader) (relays : RelayList) (limit : ℕ) (store : List ℕ)
     (formed : routes.wellFormed r ≡ true)
     (known : neighbours.wellFormed n ≡ true)
-    (agree : agrees (r .«route_record_table») store ≡ true)
+    (agree : agrees (recordTable r) store ≡ true)
     (short : carriesLong h ≡ false)
     (apart : isEndDeviceChild n (h .destination) ≡ false) where
   abbrev stack : SendMode
@@ -72,10 +73,10 @@ module _ (r : Routing) (n : Neighbors) (h : NwkHeader) (relays : RelayList) (lim
   unfolding resolve decided recordStep activeStep routeTo
   concentrator-asks =
       rw (formed, known, agree, short, apart)
-      (asked-both r h (wayTo (h .destination) limit (r .«route_record_table») store .relays) (wayTo (h .destination) limit (r .«route_record_table») store .route)
-      (hopAnswer (hopAt (h .destination .0) (rowsOf (r .«route_table»)))) refl)
+      (asked-both r h (wayTo (h .destination) limit (recordTable r) store .relays) (wayTo (h .destination) limit (recordTable r) store .route)
+      (hopAnswer (hopAt (h .destination .0) (routesIn r))) refl)
 
   pub router-asks : resolve r n h stack (record { «is_concentrator» = false; «force_route_discovery» = false; «max_source_route» = limit }) store
       ≡ byHop h (nextHop r (h .destination))
   unfolding resolve decided recordStep activeStep nextHop
-  router-asks = rw (formed, known, agree, short, apart) (asked-one h (hopAnswer (hopAt (h .destination .0) (rowsOf (r .«route_table»)))))
+  router-asks = rw (formed, known, agree, short, apart) (asked-one h (hopAnswer (hopAt (h .destination .0) (routesIn r))))

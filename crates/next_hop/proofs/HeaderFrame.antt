@@ -11,6 +11,7 @@ use Rattle.types.specs.declared.Refusal.the-variants.{ListTooLong, StoreDisagre
 use Rattle.standard.specs.declared.RelayList.{RelayList}
 use Rattle.standard.proofs.Unique.{one-answer}
 use Rattle.relay_store.specs.Store.{agrees}
+use Rattle.routing.specs.State.{recordTable}
 use Rattle.routing.specs.declared.Routing.{Routing}
 use Rattle.routing.specs.State as routes
 use Rattle.neighbors.specs.declared.Neighbors.{Neighbors}
@@ -77,7 +78,7 @@ module _ (r : Routing) (h : NwkHeader) (m : SendMode) (p : Policy) (store : List
   pub resolve-shaped : (n : Neighbors) → Shaped r h m p store (resolve r n h m p store)
   unfolding resolve
   resolve-shaped n =
-      judged (routes.wellFormed r && neighbours.wellFormed n) (agrees (r .«route_record_table») store) (namesLong m || carriesLong h) (decided r n h m p store)
+      judged (routes.wellFormed r && neighbours.wellFormed n) (agrees (recordTable r) store) (namesLong m || carriesLong h) (decided r n h m p store)
       (decided-shaped n)
 
   -- the frame of the header, for every answer of the shape

@@ -12,11 +12,12 @@ use Rattle.standard.specs.declared.RecordRoute.{RecordRoute}
 use Rattle.standard.specs.declared.RecordRoute.the-variants as record-route
 use Rattle.standard.specs.Calls.{hopAt}
 use Rattle.flat_map.specs.Table.{Each}
-use Rattle.route_table.specs.Table.{rowsOf}
 use Rattle.route_calls.specs.declared.HopAnswer.{HopAnswer}
 use Rattle.route_calls.specs.declared.HopAnswer.the-variants as hop
 use Rattle.route_calls.specs.Answer.{hopAnswer}
 use Rattle.route_record.specs.Answer.{wayTo}
+use Rattle.routing.specs.State.{recordTable}
+use Rattle.routing.specs.Routes.{routesIn}
 use Rattle.routing.specs.declared.Routing.{Routing}
 use Rattle.routing.specs.Records.{answerBy}
 use Rattle.neighbors.specs.declared.Neighbors.{Neighbors}
@@ -84,7 +85,7 @@ module _ (r : Routing) (h : NwkHeader) (m : SendMode) (p : Policy) (store : List
   by-hop false (hop.Hop next) = plain next
   by-hop false hop.Unknown = six
 
-  by-way : (b : Bool) (w : RecordRoute) (x : HopAnswer) → hopAnswer (hopAt (h .destination .0) (rowsOf (r .«route_table»))) ≡ x
+  by-way : (b : Bool) (w : RecordRoute) (x : HopAnswer) → hopAnswer (hopAt (h .destination .0) (routesIn r)) ≡ x
       → Gives (cond b (fromWay h (recordRelays r h p store) (answerBy r (h .destination) w)) none)
   by-way false w x e = tt
   by-way true record-route.Direct x e = plain _
@@ -96,8 +97,8 @@ module _ (r : Routing) (h : NwkHeader) (m : SendMode) (p : Policy) (store : List
   pub decided-by : (n : Neighbors) → P (decided r n h m p store)
   unfolding decided recordStep activeStep
   decided-by n =
-      let active = hopAnswer (hopAt (h .destination .0) (rowsOf (r .«route_table»))) in
-      let route = wayTo (h .destination) (p .«max_source_route») (r .«route_record_table») store .route in
+      let active = hopAnswer (hopAt (h .destination .0) (routesIn r)) in
+      let route = wayTo (h .destination) (p .«max_source_route») (recordTable r) store .route in
       let asks = p .«is_concentrator» && not (p .«force_route_discovery») in
       first-gives (stepsOf r n h (m .relays) p store (m .kind))
       (by-direct (m .kind), (by-force (m .kind), (by-child (isEndDeviceChild n (h .destination)), (by-way asks route active refl, (by-hop (p .«force_route_discovery») active, (by-hint (m .kind), tt))))))

@@ -11,6 +11,7 @@ use Rattle.types.specs.declared.Refusal.the-variants.{ListTooLong, StoreDisagre
 use Rattle.standard.specs.Tells.{Tells}
 use Rattle.standard.proofs.Tells.{yes-so, not-so}
 use Rattle.relay_store.specs.Store.{agrees}
+use Rattle.routing.specs.State.{recordTable}
 use Rattle.routing.specs.declared.Routing.{Routing}
 use Rattle.routing.specs.State as routes
 use Rattle.neighbors.specs.declared.Neighbors.{Neighbors}
@@ -74,7 +75,7 @@ module _ (r : Routing) (n : Neighbors) (h : NwkHeader) (m : SendMode) (p : Polic
   formed = routes.wellFormed r && neighbours.wellFormed n
 
   abbrev agree : Bool
-  agree = agrees (r .«route_record_table») store
+  agree = agrees (recordTable r) store
 
   abbrev long : Bool
   long = namesLong m || carriesLong h

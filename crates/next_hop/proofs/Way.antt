@@ -12,7 +12,6 @@ use Rattle.types.specs.declared.Nwk.{Nwk}
 use Rattle.standard.specs.declared.RecordRoute.the-variants.{Direct, SourceRoute}
 use Rattle.standard.specs.Records.{RouteRecord, ShortWay, noWay, wayBy}
 use Rattle.standard.specs.Calls.{hopAt}
-use Rattle.route_table.specs.Table.{rowsOf}
 use Rattle.relay_store.specs.Store.{Agrees}
 use Rattle.relay_store.proofs.Cells.{list-count}
 use Rattle.route_calls.specs.declared.HopAnswer.{HopAnswer}
@@ -20,10 +19,11 @@ use Rattle.route_calls.specs.declared.HopAnswer.the-variants as hop
 use Rattle.route_calls.specs.Answer.{hopAnswer}
 use Rattle.route_record.specs.Answer.{recordOf, listed, wayTo}
 use Rattle.route_record.proofs.Looked.{Short, short-held}
+use Rattle.routing.specs.Routes.{routesIn}
 use Rattle.routing.specs.declared.Routing.{Routing}
 use Rattle.routing.specs.declared.RouteToAnswer.the-variants as way
 use Rattle.routing.specs.Records.{hopTo, wayIn, routeToCore}
-use Rattle.routing.specs.State.{WellFormed}
+use Rattle.routing.specs.State.{WellFormed, recordTable}
 use Rattle.next_hop.specs.Tails.{WayFits}
 
 -- the Active route is no source route
@@ -38,14 +38,14 @@ module _ (r : Routing) (d : Nwk) where
       → WayFits (wayIn r d (listed (cond b (record { route = Direct; relays = [] }) (cond c (record { route = SourceRoute; relays = x .relays }) noWay))))
   picked x short true c q e = let z : _≡_ {A = ℕ} 0 1 = cc in absurd (omega arith)
   picked x short false true q e = (omega (arith, list-count (x .relays), eqb-false (length (x .relays)) 0 q), omega (arith, list-count (x .relays), short))
-  picked x short false false q e = absurd (hop-plain (hopAnswer (hopAt (d .0) (rowsOf (r .«route_table»)))) e)
+  picked x short false false q e = absurd (hop-plain (hopAnswer (hopAt (d .0) (routesIn r))) e)
 
   by-record : (limit : ℕ) (o : Option RouteRecord) → Short o → WayFits (wayIn r d (listed (wayBy limit o)))
-  by-record limit none short e = absurd (hop-plain (hopAnswer (hopAt (d .0) (rowsOf (r .«route_table»)))) e)
+  by-record limit none short e = absurd (hop-plain (hopAnswer (hopAt (d .0) (routesIn r))) e)
   by-record limit (some x) short e = picked x (short x refl) (eqb (length (x .relays)) 0) (ltb (length (x .relays)) limit) refl e
 
-pub way-fits : (r : Routing) (store : List ℕ) → WellFormed r → Agrees (r .«route_record_table») store → (d : Nwk) (limit : ℕ)
+pub way-fits : (r : Routing) (store : List ℕ) → WellFormed r → Agrees (recordTable r) store → (d : Nwk) (limit : ℕ)
     → WayFits (routeToCore r d limit store)
 unfolding wayTo
 way-fits r store w g d limit =
-    by-record r d limit (recordOf d (r .«route_record_table») store) (short-held (r .«route_record_table») store (record { formed = w .records; agrees = g }) d)
+    by-record r d limit (recordOf d (recordTable r) store) (short-held (recordTable r) store (record { formed = w .records; agrees = g }) d)

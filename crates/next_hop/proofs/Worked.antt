@@ -12,6 +12,9 @@ use Rattle.standard.specs.Query.{someFits}
 use Rattle.standard.specs.Records.{RouteRecord, recordFor}
 use Rattle.standard.specs.Route.{nwk}
 use Rattle.flat_map.specs.Table.{formed}
+use Rattle.columns.specs.Columns.{places, ordered}
+use Rattle.route_table.specs.Codec.{routeWord, routeIn}
+use Rattle.discovery_table.specs.Codec.{discoveryWord, discoveryIn}
 use Rattle.route_table.specs.Table as routes
 use Rattle.discovery_table.specs.Table as discoveries
 use Rattle.record_table.specs.Table as records
@@ -25,7 +28,7 @@ use Rattle.neighbor_table.specs.Entry as neighbour
 use Rattle.neighbor_queries.specs.Filter.{fits}
 use Rattle.neighbor_table.specs.Table as neighbours
 use Rattle.waiting_table.specs.Table as waiting
-use Rattle.relay_store.specs.Store.{relayList, agrees, rowsIn, flat}
+use Rattle.relay_store.specs.Store.{relayList, agreesBy, rowsIn, flat}
 use Rattle.relay_store.specs.Packed.{recordsOf, tableFor, storeFor}
 use Rattle.route_record.specs.Answer.{wayTo}
 use Rattle.routing.specs.declared.Routing.{Routing}
@@ -78,14 +81,7 @@ sent d relays = record { kind = Route d; relays = relayList relays }
 
 -- a state with routes and records and nothing else in it, and what it is asked by the default policy
 abbrev holding : List RouteEntry → List RouteRecord → Routing
-holding xs rs = record {
-  «mtorr_route_errors» = 0;
-  «mtorr_delivery_failures» = 0;
-  «route_table» = routes.tableOf xs;
-  «discovery_table» = discoveries.tableOf [];
-  «route_record_table» = tableFor rs;
-  «request_sequence_number» = 0;
-}
+holding xs rs = state.stateOf 0 0 0 (routes.tableOf xs) (discoveries.tableOf []) (tableFor rs)
 
 abbrev said : List RouteEntry → List RouteRecord → NwkRouteDiscovery → SendMode → Said
 said xs rs d m = resolveSaid (resolveDefault (holding xs rs) known.fresh (header d) m (storeFor rs))
@@ -158,7 +154,7 @@ pub record Rows : Type 0 where
   pub unknown-hop : said (by 65535) [] Enable (sent (Hint (NextHop (nwk 21))) []) ≡ refused 6
 
 pub rows : Rows
-unfolding resolve decided recordStep activeStep headerNumbers state.wellFormed known.wellFormed formed agrees routes.tableOf discoveries.tableOf records.tableOf neighbours.tableOf neighbour.isBlank neighbour.isSound neighbour.quiet fits waiting.tableOf relayList lookup hopAt wayTo recordsOf rowsIn flat someFits
+unfolding resolve decided recordStep activeStep headerNumbers state.wellFormed known.wellFormed formed ordered places routeWord routeIn discoveryWord discoveryIn agreesBy routes.tableOf discoveries.tableOf records.tableOf neighbours.tableOf neighbour.isBlank neighbour.isSound neighbour.quiet fits waiting.tableOf relayList lookup hopAt wayTo recordsOf rowsIn flat someFits
 rows = record {
   needed = refl;
   needed-too = refl;

@@ -17,11 +17,12 @@ use Rattle.types.specs.declared.Refusal.the-variants.{UnknownNextHop, EmptySour
 use Rattle.standard.specs.declared.RelayList.{RelayList}
 use Rattle.standard.specs.Calls.{hopAt}
 use Rattle.standard.specs.Route.{nwk}
-use Rattle.route_table.specs.Table.{rowsOf}
 use Rattle.relay_store.specs.Store.{agrees}
 use Rattle.route_calls.specs.declared.HopAnswer.{HopAnswer}
 use Rattle.route_calls.specs.declared.HopAnswer.the-variants as active
 use Rattle.route_calls.specs.Answer.{hopAnswer}
+use Rattle.routing.specs.State.{recordTable}
+use Rattle.routing.specs.Routes.{routesIn}
 use Rattle.routing.specs.declared.Routing.{Routing}
 use Rattle.routing.specs.declared.RouteToAnswer.{RouteToAnswer}
 use Rattle.routing.specs.declared.RouteToAnswer.the-variants as way
@@ -103,7 +104,7 @@ fromHop h active.Unknown = some (refusedWith h UnknownNextHop)
 
 -- "Active route"; 05-3474, section 3.6.4.3: the next hop of the routing table entry; "Force-discovery skips the two table steps only."
 unfoldable pub activeStep : Routing → NwkHeader → Policy → Option ResolveOutcome
-activeStep r h p = cond (p .«force_route_discovery») none (fromHop h (hopAnswer (hopAt (h .destination .0) (rowsOf (r .«route_table»)))))
+activeStep r h p = cond (p .«force_route_discovery») none (fromHop h (hopAnswer (hopAt (h .destination .0) (routesIn r))))
 
 -- "hint": a wish of the host
 abbrev pub hintStep : NwkHeader → RelayList → SendKind → Option ResolveOutcome
@@ -157,7 +158,7 @@ namesLong m = kindLong (m .relays) (m .kind)
 unfoldable pub resolve : Routing → Neighbors → NwkHeader → SendMode → Policy → List ℕ → ResolveOutcome
 resolve r n h m p store =
     cond (routing.wellFormed r && neighbors.wellFormed n)
-    (cond (agrees (r .«route_record_table») store)
+    (cond (agrees (recordTable r) store)
     (cond (namesLong m || carriesLong h) (refusedWith h ListTooLong) (decided r n h m p store))
     (refusedWith h StoreDisagrees))
     (refusedWith h StateIllFormed)

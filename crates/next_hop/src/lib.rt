@@ -13,6 +13,7 @@ ghost use mathlib.Core.Bool.{false};
 ghost use mathlib.Core.Path.{_≡_};
 ghost use Rattle.relay_store.specs.Store.{Agrees};
 ghost use Rattle.routing.specs.State as routes;
+ghost use Rattle.routing.specs.State.{recordTable};
 ghost use Rattle.neighbors.specs.State as neighbours;
 ghost use Rattle.next_hop.specs.Decision.{namesLong, decided, resolve, resolveDefault};
 
@@ -74,7 +75,7 @@ pub fn resolve_core(
     mode: SendMode,
     policy: Policy,
 ) -> ResolveOutcome
-    requires { ⌜ routes.WellFormed routing × neighbours.WellFormed neighbors × Agrees (routing .«route_record_table») (now store) × (namesLong mode ≡ false) ⌝ }
+    requires { ⌜ routes.WellFormed routing × neighbours.WellFormed neighbors × Agrees (recordTable routing) (now store) × (namesLong mode ≡ false) ⌝ }
     ensures { λ r. ⌜ r ≡ decided routing neighbors header mode policy (now (store .entry)) ⌝ }
 {
     let kind = mode.kind;
@@ -108,8 +109,7 @@ pub fn resolve(
     if !(routing.well_formed() & neighbors.well_formed()) {
         return steps::refuse(header, Refusal::StateIllFormed);
     }
-    let t = routing.route_record_table;
-    if !relay_store::agrees(t, store) {
+    if !routing.agrees(store) {
         return steps::refuse(header, Refusal::StoreDisagrees);
     }
     if mode.names_long() | header.carries_long() {

@@ -18,6 +18,7 @@ ghost use mathlib.Core.Path.{_≡_};
 ghost use Prim.Native.Nat.{_<_, _≤_};
 ghost use Rattle.relay_store.specs.Store.{Agrees};
 ghost use Rattle.routing.specs.State as routes;
+ghost use Rattle.routing.specs.State.{recordTable};
 ghost use Rattle.neighbors.specs.State as neighbours;
 ghost use Rattle.next_hop.specs.Decision.{hopTo, refusedWith, bySourceRoute, hostRouted, undiscovered, hostLong, directiveLong};
 ghost use Rattle.next_hop.specs.Tails.{WayFits, hinted, hopped, routed, wayTaken, recorded, delivered, forced};
@@ -131,9 +132,8 @@ fn by_route(
     if policy.force_route_discovery {
         return by_hint(header, directive, relays);
     }
-    let routes = routing.route_table;
     let destination = header.destination;
-    let found = route_calls::next_hop(routes, destination);
+    let found = routing.active_hop(destination);
     by_hop(header, directive, relays, found)
 }
 
@@ -170,7 +170,7 @@ fn by_record(
     relays: RelayList,
     policy: Policy,
 ) -> ResolveOutcome
-    requires { ⌜ routes.WellFormed routing × Agrees (routing .«route_record_table») (now store) × (directiveLong relays directive ≡ false) ⌝ }
+    requires { ⌜ routes.WellFormed routing × Agrees (recordTable routing) (now store) × (directiveLong relays directive ≡ false) ⌝ }
     ensures { λ r. ⌜ r ≡ recorded routing header relays directive policy (now (store .entry)) ⌝ }
 {
     if policy.is_concentrator & !policy.force_route_discovery {
@@ -192,7 +192,7 @@ fn by_child(
     relays: RelayList,
     policy: Policy,
 ) -> ResolveOutcome
-    requires { ⌜ routes.WellFormed routing × neighbours.WellFormed neighbors × Agrees (routing .«route_record_table») (now store) × (directiveLong relays directive ≡ false) ⌝ }
+    requires { ⌜ routes.WellFormed routing × neighbours.WellFormed neighbors × Agrees (recordTable routing) (now store) × (directiveLong relays directive ≡ false) ⌝ }
     ensures { λ r. ⌜ r ≡ delivered routing neighbors header relays directive policy (now (store .entry)) ⌝ }
 {
     let destination = header.destination;
@@ -213,7 +213,7 @@ pub fn by_force(
     relays: RelayList,
     policy: Policy,
 ) -> ResolveOutcome
-    requires { ⌜ routes.WellFormed routing × neighbours.WellFormed neighbors × Agrees (routing .«route_record_table») (now store) × (directiveLong relays directive ≡ false) ⌝ }
+    requires { ⌜ routes.WellFormed routing × neighbours.WellFormed neighbors × Agrees (recordTable routing) (now store) × (directiveLong relays directive ≡ false) ⌝ }
     ensures { λ r. ⌜ r ≡ forced routing neighbors header relays directive policy (now (store .entry)) ⌝ }
 {
     match directive {

@@ -1,18 +1,18 @@
 -- A row filled number by number, and a list read number by number: each turn makes the part that is done one longer,
--- and a row read whole and written again is the same row.
-use Prim.Native.Nat.{ℕ, zero, suc, _+_, _<_, _≤_}
+-- and addresses are the numbers that the row holds.
+use Prim.Native.Nat.{ℕ, zero, suc, _+_, _-_, _<_, _≤_}
 use native.Mathlib.Nat.{le-of-suc-le-suc, not-suc-le-zero}
 use native.Mathlib.Numerals.{add-one}
 use native.Mathlib.Omega.{arith}
-use mathlib.Core.List.{List, [], _∷_, _++_, map, map-id}
+use mathlib.Core.List.{List, [], _∷_, _++_, map}
 use mathlib.Core.Path.{_≡_, refl, sym, ap, _∙_}
-use lib.ListN.{length, take, getD, set, length-set, length-map, List·getD-map}
-use lib.Seq.{take-suc, take-suc-set, take-all, getD-take, length-take-le}
+use lib.ListN.{length, take, drop, getD, set, length-set, length-map, length-drop, List·getD-map}
+use lib.Seq.{take-suc, take-suc-set, take-all, getD-take, getD-drop, length-take-le}
 use Rattle.types.specs.declared.Nwk.{Nwk}
 use Rattle.standard.specs.declared.RelayList.{RelayList}
 use Rattle.standard.specs.Route.{nwk}
 use Rattle.flat_map.specs.Rows.{pad}
-use Rattle.flat_map.proofs.Rows.{cons, take-pad, getD-pad, getD-blank, length-pad}
+use Rattle.flat_map.proofs.Rows.{cons, take-pad, getD-pad, getD-blank}
 use Rattle.relay_store.specs.Store.{number, rowOf, relaysOf, relayList}
 
 module _ {A B : Type 0} (f : A → B) where
@@ -38,25 +38,19 @@ module _ {A : Type 0} where
   pub same-whole : (xs ys : List A) (n : ℕ) → length xs ≡ n → length ys ≡ n → take n xs ≡ take n ys → xs ≡ ys
   same-whole xs ys n h l e = sym (take-all n xs (omega arith)) ∙ e ∙ take-all n ys (omega arith)
 
-  pub pad-full : (b : A) (xs : List A) (n : ℕ) → length xs ≡ n → pad n b xs ≡ xs
-  pad-full b [] zero h = refl
-  pad-full b [] (suc n) h = absurd (omega arith)
-  pad-full b (x ∷ xs) zero h = absurd (omega arith)
-  pad-full b (x ∷ xs) (suc n) h = cons x (pad-full b xs n (omega arith))
+-- what stands in a row that holds a list's relays from a place on
+module _ (l : RelayList) (from i : ℕ) (long : length (l .addresses) ≡ 32) (few : l .count ≤ 32) (h : from ≤ l .count) where
+  as-many : length (map number (drop from (relaysOf l))) ≡ l .count - from
+  as-many = length-map (drop from (relaysOf l)) number ∙ omega (arith, length-drop from (relaysOf l), length-take-le (l .count) (l .addresses) (omega arith))
 
--- what stands in a row that holds a list's relays
-module _ (l : RelayList) (i : ℕ) (long : length (l .addresses) ≡ 32) (few : l .count ≤ 32) where
-  as-many : length (map number (relaysOf l)) ≡ l .count
-  as-many = length-map (relaysOf l) number ∙ length-take-le (l .count) (l .addresses) (omega arith)
+  pub cell-in : i < l .count - from → getD (rowOf (drop from (relaysOf l))) i 0 ≡ number (getD (l .addresses) (from + i) (nwk 0))
+  cell-in g =
+      getD-pad 32 i 0 (map number (drop from (relaysOf l))) (omega (arith, as-many)) (omega (arith, as-many))
+      ∙ List·getD-map number (drop from (relaysOf l)) i (nwk 0)
+      ∙ ap number (getD-drop from (relaysOf l) i (nwk 0) ∙ getD-take (l .count) (l .addresses) (from + i) (nwk 0) (omega arith))
 
-  pub cell-in : i < l .count → getD (rowOf (relaysOf l)) i 0 ≡ number (getD (l .addresses) i (nwk 0))
-  cell-in h =
-      getD-pad 32 i 0 (map number (relaysOf l)) (omega (arith, as-many)) (omega (arith, as-many))
-      ∙ List·getD-map number (relaysOf l) i (nwk 0)
-      ∙ ap number (getD-take (l .count) (l .addresses) i (nwk 0) h)
-
-  pub cell-after : l .count ≤ i → getD (rowOf (relaysOf l)) i 0 ≡ 0
-  cell-after h = getD-blank 32 i 0 (map number (relaysOf l)) (omega (arith, as-many))
+  pub cell-after : l .count - from ≤ i → getD (rowOf (drop from (relaysOf l))) i 0 ≡ 0
+  cell-after g = getD-blank 32 i 0 (map number (drop from (relaysOf l))) (omega (arith, as-many))
 
 -- numbers as addresses, and addresses as numbers
 pub number-nwk : (row : List ℕ) → map number (map nwk row) ≡ row
@@ -75,23 +69,10 @@ pub list-count : (relays : List Nwk) → relayList relays .count ≡ length rela
 unfolding relayList
 list-count relays = refl
 
--- a row read whole and written again
-pub row-again : (row : List ℕ) → length row ≡ 32 → rowOf (relaysOf (relayList (map nwk (take 32 row)))) ≡ row
-row-again row h =
-    rw (take-all 32 row (omega arith), list-relays (map nwk row) (omega (arith, length-map row nwk)), number-nwk row)
-    (pad-full 0 row 32 h)
-
 -- one number of a row written as it is to be
-pub cell-written : (l : RelayList) (row after : List ℕ) (i v : ℕ) → after ≡ set row i v → v ≡ getD (rowOf (relaysOf l)) i 0 → i < 32 → length row ≡ 32
-    → take i row ≡ take i (rowOf (relaysOf l)) → (length after ≡ 32) × (take (i + 1) after ≡ take (i + 1) (rowOf (relaysOf l)))
-cell-written l row after i v e q h n s = (
+pub cell-written : (goal row after : List ℕ) (i v : ℕ) → length goal ≡ 32 → after ≡ set row i v → v ≡ getD goal i 0 → i < 32 → length row ≡ 32 → take i row ≡ take i goal
+    → (length after ≡ 32) × (take (i + 1) after ≡ take (i + 1) goal)
+cell-written goal row after i v w e q h n s = (
   ap length e ∙ length-set row i v ∙ n,
-  ap (take (i + 1)) e ∙ same-next row (rowOf (relaysOf l)) i v 0 (omega arith) (omega (arith, length-pad {A = ℕ} 32 0 (map number (relaysOf l)))) s q,
+  ap (take (i + 1)) e ∙ same-next row goal i v 0 (omega arith) (omega arith) s q,
 )
-
--- one more element of a list, copied into its place
-pub pad-copy : {A : Type 0} (n i : ℕ) (b d : A) (xs : List A) → i < n → i < length xs → set (pad n b (take i xs)) i (getD xs i d) ≡ pad n b (take (i + 1) xs)
-pad-copy {A = A} n i b d xs h l =
-    ap (λ (ys : List A). set (pad n b ys) i (getD xs i d)) (sym (map-id (take i xs)))
-    ∙ pad-next (λ (x : A). x) n i b d xs h l
-    ∙ ap (pad n b) (map-id (take (i + 1) xs))

@@ -11,17 +11,16 @@ use lib.Seq.{length-take-le}
 use Rattle.types.specs.declared.Nwk.{Nwk}
 use Rattle.standard.specs.declared.RecordEntry.{RecordEntry}
 use Rattle.standard.specs.Ordered.{Asc}
-use Rattle.standard.specs.Record.{recordKey, FewRelays}
+use Rattle.standard.specs.Record.{recordKey}
 use Rattle.standard.specs.Records.{RouteRecord, addressKey, ShortWay}
 use Rattle.standard.specs.Route.{nwk}
 use Rattle.flat_map.specs.Rows.{pad}
-use Rattle.flat_map.specs.Table.{Each, Fit, ZeroFrom}
+use Rattle.flat_map.specs.Table.{Each, ZeroFrom}
 use Rattle.flat_map.proofs.Compare.{below-or-not}
-use Rattle.flat_map.proofs.Each.{each-at}
 use Rattle.flat_map.proofs.Rows.{cons, length-pad, take-pad, getD-blank, pad-is}
-use Rattle.flat_map.proofs.Table.{rows-length, row-at, keys-rows}
-use Rattle.record_table.specs.declared.RecordTable.{RecordTable}
-use Rattle.record_table.specs.Table.{blankRecord, rowsOf, WellFormed, tableOf}
+use Rattle.record_table.specs.Codec.{InRange}
+use Rattle.record_table.specs.Table.{RecordTable, blankRecord, rowsOf, WellFormed, tableOf, Fits as EntriesFit}
+use Rattle.record_table.proofs.Rows as table
 use Rattle.record_table.proofs.Rows.{table-view, table-fit, table-rows, table-formed}
 use Rattle.relay_store.specs.Store.{number, rowAt, rowsIn, rowOf, blankRow, relayCount, Agrees}
 use Rattle.relay_store.specs.Packed.{recordBy, recordsBy, recordsOf, entryOf, relayRow, tableFor, rowsFor, storeFor, blankRouteRecord, Fits, Together}
@@ -73,35 +72,31 @@ pub entry-keys : (xs : List RouteRecord) → map recordKey (map entryOf xs) ≡ 
 entry-keys [] = refl
 entry-keys (x ∷ xs) = cons (addressKey x) (entry-keys xs)
 
-short-of : (xs : List RouteRecord) → Each FewRelays (map entryOf xs) → Each ShortWay xs
+short-of : (xs : List RouteRecord) → Each InRange (map entryOf xs) → Each ShortWay xs
 short-of [] e = tt
-short-of (x ∷ xs) e = (e .0, short-of xs (e .1))
+short-of (x ∷ xs) e = (omega (arith, e .0), short-of xs (e .1))
 
-few-of : (xs : List RouteRecord) → Each ShortWay xs → Each FewRelays (map entryOf xs)
+few-of : (xs : List RouteRecord) → Each ShortWay xs → Each InRange (map entryOf xs)
 few-of [] e = tt
-few-of (x ∷ xs) e = (e .0, few-of xs (e .1))
+few-of (x ∷ xs) e = (omega (arith, e .0), few-of xs (e .1))
 
 -- a table and a store that agree
 module _ (t : RecordTable) (s : List ℕ) (w : WellFormed t) (a : Agrees t s) where
   many : length (rowsOf t) ≡ t .count
-  many = rows-length 64 recordKey blankRecord (t .keys) (t .entries) (t .count) (w .formed)
+  many = table.many t w
 
   room : length (rowsOf t) ≤ length (rowsIn 64 s)
-  room = omega (arith, many, w .formed .small, count-rows 64 s)
+  room = omega (arith, many, w .ordered .small, count-rows 64 s)
 
   wide-at : (i : ℕ) → i < 64 → length (rowAt i s) ≡ 32
   wide-at i h = wide-row 64 i s (omega (arith, a .places)) h
 
   matched : AllMatched (rowsOf t) (rowsIn 64 s)
   matched i l =
-      let h : i < 64 = omega (arith, many, w .formed .small) in
+      let h : i < 64 = omega (arith, many, w .ordered .small) in
       subst (Matched (getD (rowsOf t) i blankRecord)) (sym (row-is 64 i s [] h))
-      (subst (λ (e : RecordEntry). Matched e (rowAt i s)) (row-at 64 recordKey blankRecord (t .keys) (t .entries) (t .count) (w .formed) i (omega (arith, many)))
-      (record {
-        width = wide-at i h;
-        few = each-at FewRelays blankRecord (t .entries) (t .count) (omega (arith, w .formed .small, w .formed .entry-places)) (w .few) i (omega (arith, many));
-        zeros = a .zeros i h;
-      }))
+      (subst (λ (e : RecordEntry). Matched e (rowAt i s)) (sym (table.row-at t w i (omega (arith, many))))
+      (record { width = wide-at i h; few = omega (arith, w .few i); zeros = a .zeros i h }))
 
   pub entries-back : map entryOf (recordsOf t s) ≡ rowsOf t
   unfolding recordsOf
@@ -111,7 +106,7 @@ module _ (t : RecordTable) (s : List ℕ) (w : WellFormed t) (a : Agrees t s) wh
   unused : (i : ℕ) → t .count ≤ i → getD (rowsIn 64 s) i blankRow ≡ blankRow
   unused i h = ⊎-elim inside past (below-or-not i 64) where
     zero-row : i < 64 → ZeroFrom (rowAt i s) 0
-    zero-row l = subst (ZeroFrom (rowAt i s)) (ap (λ (e : RecordEntry). e .«relay_count») (w .formed .blanks i h)) (a .zeros i l)
+    zero-row l = subst (ZeroFrom (rowAt i s)) (w .ordered .zeros .1 .0 i h) (a .zeros i l)
 
     inside : i < 64 → getD (rowsIn 64 s) i blankRow ≡ blankRow
     inside l =
@@ -136,17 +131,17 @@ module _ (t : RecordTable) (s : List ℕ) (w : WellFormed t) (a : Agrees t s) wh
 
   pub keys-back : take (t .count) (t .keys) ≡ map addressKey (recordsOf t s)
   keys-back =
-      keys-rows 64 recordKey blankRecord (t .keys) (t .entries) (t .count) (w .formed)
+      table.keys-are t w
       ∙ ap (map recordKey) (sym entries-back)
       ∙ entry-keys (recordsOf t s)
 
   pub view-fits : Fits (recordsOf t s)
   view-fits = record {
     fit = record {
-      small = omega (arith, table-fit t w .small, ap length entries-back, length-map (recordsOf t s) entryOf);
-      ascending = subst Asc (ap (map recordKey) (sym entries-back) ∙ entry-keys (recordsOf t s)) (table-fit t w .ascending);
+      small = omega (arith, table-fit t w .fit .small, ap length entries-back, length-map (recordsOf t s) entryOf);
+      ascending = subst Asc (ap (map recordKey) (sym entries-back) ∙ entry-keys (recordsOf t s)) (table-fit t w .fit .ascending);
     };
-    short = short-of (recordsOf t s) (rw entries-back (w .few));
+    short = short-of (recordsOf t s) (rw entries-back (table-fit t w .ranged));
   }
 
 -- records that fit
@@ -173,7 +168,7 @@ records-by (suc n) (x ∷ xs) h e =
     λ z. record { destination = x .destination; relays = back z } ∷ records-by n xs (le-of-suc-le-suc h) (e .1) z
 
 zeros-by : (n : ℕ) (xs : List RouteRecord) (i : ℕ)
-    → ZeroFrom (getD (pad n blankRow (map relayRow xs)) i blankRow) (getD (pad n blankRecord (map entryOf xs)) i blankRecord .«relay_count»)
+    → ZeroFrom (getD (pad n blankRow (map relayRow xs)) i blankRow) (getD (pad n 0 (map (λ (e : RecordEntry). e .«relay_count») (map entryOf xs))) i 0)
 zeros-by zero xs i j h = getD-blank 32 j 0 [] zero-le
 zeros-by (suc n) [] zero j h = getD-blank 32 j 0 [] zero-le
 zeros-by (suc n) [] (suc i) j h = zeros-by n [] i j h
@@ -181,14 +176,17 @@ zeros-by (suc n) (x ∷ xs) zero j h = getD-blank 32 j 0 (map number (x .relays)
 zeros-by (suc n) (x ∷ xs) (suc i) j h = zeros-by n xs i j h
 
 module _ (xs : List RouteRecord) (f : Fits xs) where
-  pub entries-fit : Fit 64 recordKey blankRecord (map entryOf xs)
+  pub entries-fit : EntriesFit (map entryOf xs)
   entries-fit = record {
-    small = omega (arith, f .fit .small, length-map xs entryOf);
-    ascending = subst Asc (sym (entry-keys xs)) (f .fit .ascending);
+    fit = record {
+      small = omega (arith, f .fit .small, length-map xs entryOf);
+      ascending = subst Asc (sym (entry-keys xs)) (f .fit .ascending);
+    };
+    ranged = few-of xs (f .short);
   }
 
   pub packed-formed : WellFormed (tableFor xs)
-  packed-formed = table-formed (map entryOf xs) entries-fit (few-of xs (f .short))
+  packed-formed = table-formed (map entryOf xs) entries-fit
 
   wide-packed : Each Wide (rowsFor xs)
   wide-packed = each-pad 64 blankRow (map relayRow xs) (length-pad {A = ℕ} 32 0 []) (wide-of xs)
@@ -213,3 +211,7 @@ module _ (xs : List RouteRecord) (f : Fits xs) where
 
   pub packed-together : Together (tableFor xs) (storeFor xs)
   packed-together = record { formed = packed-formed; agrees = packed-agrees }
+
+-- a table and a store that agree are those of their records
+pub together-view : (t : RecordTable) (s : List ℕ) → Together t s → (t ≡ tableFor (recordsOf t s)) × (s ≡ storeFor (recordsOf t s))
+together-view t s g = (view-table t s (g .formed) (g .agrees), view-store t s (g .formed) (g .agrees))

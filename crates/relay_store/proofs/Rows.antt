@@ -6,10 +6,12 @@ use native.Mathlib.Omega.{arith}
 use mathlib.Core.List.{List, [], _∷_, _++_, append-assoc}
 use mathlib.Core.Path.{_≡_, refl, sym, ap, _∙_}
 use lib.ListN.{length, take, drop, getD, set, length-append, length-drop, take-append-drop}
-use lib.Seq.{take-at, drop-at, take-add, drop-drop, length-take-le, getD-set-other}
+use lib.Seq.{take-at, drop-at, take-add, drop-drop, length-take-le, getD-set-other, getD-take, getD-drop, ext-getD}
 use Rattle.flat_map.specs.Shift.{shiftIn}
 use Rattle.flat_map.specs.Table.{Each}
 use Rattle.flat_map.proofs.Rows.{cons}
+use Rattle.columns.specs.Columns.{places}
+use Rattle.columns.proofs.Places.{places-length, place-at}
 use Rattle.relay_store.specs.Store.{rowAt, withRow, rowsIn, flat}
 
 -- a row has 32 numbers
@@ -99,16 +101,19 @@ module _ (row : List ℕ) (w : length row ≡ 32) where
       ∙ getD-set-other (rowsIn n s) i j row [] d
       ∙ row-is n j s [] g
 
--- a part lent from 32 times the row on is that row, and what lies after it begins with the next
-span : (i : ℕ) → 32 * i + 32 - 32 * i ≡ 32
-span i = omega arith
+-- a part of 32 numbers lent from a place on; from 32 times the row on it is that row, and what lies after it begins with the next
+span : (k : ℕ) → k + 32 - k ≡ 32
+span k = omega arith
+
+pub part-of : (k : ℕ) (s : List ℕ) → take (k + 32 - k) (drop k s) ≡ take 32 (drop k s)
+part-of k s = ap (λ (n : ℕ). take n (drop k s)) (span k)
 
 pub part-row : (i : ℕ) (s : List ℕ) → take (32 * i + 32 - 32 * i) (drop (32 * i) s) ≡ rowAt i s
-part-row i s = ap (λ (k : ℕ). take k (drop (32 * i) s)) (span i)
+part-row i s = part-of (32 * i) s
 
 pub part-put : (i : ℕ) (row s : List ℕ) → take (32 * i) s ++ (row ++ drop (32 * i + 32 - 32 * i) (drop (32 * i) s)) ≡ withRow i row s
 part-put i row s =
-    (λ z. take (32 * i) s ++ (row ++ drop (span i z) (drop (32 * i) s)))
+    (λ z. take (32 * i) s ++ (row ++ drop (span (32 * i) z) (drop (32 * i) s)))
     ∙ (λ z. take (32 * i) s ++ (row ++ drop-drop 32 (32 * i) s z))
 
 pub length-flat : (rows : List (List ℕ)) → Each Wide rows → length (flat rows) ≡ 32 * length rows
@@ -127,3 +132,15 @@ pub set-shift-in : (rows : List (List ℕ)) (i : ℕ) (a b : List ℕ) → set (
 set-shift-in [] i a b = refl
 set-shift-in (x ∷ rows) zero a b = refl
 set-shift-in (x ∷ rows) (suc i) a b = cons x (set-shift-in rows i a b)
+
+-- the rows by their places
+pub rows-places : (n : ℕ) (s : List ℕ) → rowsIn n s ≡ places n (λ r. rowAt r s)
+rows-places n s =
+    ext-getD [] (rowsIn n s) (places n (λ r. rowAt r s)) (count-rows n s ∙ sym (places-length n (λ r. rowAt r s)))
+    (λ r h. let l : r < n = omega (arith, count-rows n s) in row-is n r s [] l ∙ sym (place-at n (λ j. rowAt j s) r [] l))
+
+-- two rows of the same numbers
+pub row-same : (s t : List ℕ) (q r : ℕ) → length (rowAt q s) ≡ 32 → length (rowAt r t) ≡ 32 → ((k : ℕ) → k < 32 → getD s (32 * q + k) 0 ≡ getD t (32 * r + k) 0) → rowAt q s ≡ rowAt r t
+row-same s t q r v w e = ext-getD 0 (rowAt q s) (rowAt r t) (v ∙ sym w) (λ k h. number s q k (omega arith) ∙ e k (omega arith) ∙ sym (number t r k (omega arith))) where
+  number : (s : List ℕ) (q k : ℕ) → k < 32 → getD (rowAt q s) k 0 ≡ getD s (32 * q + k) 0
+  number s q k h = getD-take 32 (drop (32 * q) s) k 0 h ∙ getD-drop (32 * q) s k 0

@@ -8,8 +8,7 @@ use Rattle.standard.specs.Records.{RouteRecord, addressKey, ShortWay}
 use Rattle.standard.specs.Route.{nwk}
 use Rattle.flat_map.specs.Rows.{pad}
 use Rattle.flat_map.specs.Table.{Each, Fit}
-use Rattle.record_table.specs.declared.RecordTable.{RecordTable}
-use Rattle.record_table.specs.Table.{WellFormed, rowsOf, tableOf}
+use Rattle.record_table.specs.Table.{RecordTable, WellFormed, rowsOf, tableOf}
 use Rattle.relay_store.specs.Store.{rowsIn, flat, rowOf, blankRow, Agrees}
 
 -- an entry and its row as a record

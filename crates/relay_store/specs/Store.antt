@@ -2,7 +2,7 @@
 -- Document 01, "Well formed": "The relay store has 64 rows of 32; row i holds the relays of the i-th record by address, zeros after
 -- its length and in unused rows."
 -- Assumes nothing.
-use Prim.Native.Nat.{ℕ, zero, suc, _+_, _*_, _<_}
+use Prim.Native.Nat.{ℕ, zero, suc, _+_, _*_, _<_, _≤_}
 use mathlib.Core.Bool.{Bool, true, _&&_}
 use mathlib.Core.List.{List, [], _∷_, _++_, map}
 use mathlib.Core.Path.{_≡_}
@@ -16,8 +16,7 @@ use Rattle.flat_map.specs.declared.Place.the-variants.{Found, Missing}
 use Rattle.flat_map.specs.Rows.{pad}
 use Rattle.flat_map.specs.Shift.{shiftIn}
 use Rattle.flat_map.specs.Table.{ZeroFrom, every}
-use Rattle.record_table.specs.declared.RecordTable.{RecordTable}
-use Rattle.record_table.specs.Table.{blankRecord}
+use Rattle.record_table.specs.Table.{RecordTable}
 
 -- row i of a store
 abbrev pub rowAt : ℕ → List ℕ → List ℕ
@@ -70,17 +69,35 @@ PlaceWithin (Missing i) = i < 64
 
 -- how many relays the record at a place has; 0 at a place that is not in use
 abbrev pub relayCount : RecordTable → ℕ → ℕ
-relayCount t i = getD (t .entries) i blankRecord .«relay_count»
+relayCount t i = getD (t .lengths) i 0
 
-pub record Agrees (t : RecordTable) (store : List ℕ) : Type 0 where
+-- a store of 64 rows, each zero after as many numbers as the column says
+pub record AgreesBy (lengths store : List ℕ) : Type 0 where
   pub places : length store ≡ 2048
-  pub zeros : (i : ℕ) → i < 64 → ZeroFrom (rowAt i store) (relayCount t i)
+  pub zeros : (i : ℕ) → i < 64 → ZeroFrom (rowAt i store) (getD lengths i 0)
+
+-- a store that agrees with a table: its rows are as long as the table's records
+abbrev pub Agrees : RecordTable → List ℕ → Type 0
+Agrees t store = AgreesBy (t .lengths) store
 
 -- a test of every number below n
 abbrev pub allBelow : ℕ → (ℕ → Bool) → Bool
 allBelow zero test = true
 allBelow (suc n) test = test n && allBelow n test
 
--- `Agrees`, computed
-unfoldable pub agrees : RecordTable → List ℕ → Bool
-agrees t store = eqb (length store) 2048 && allBelow 64 (λ i. every (eqb 0) (drop (relayCount t i) (rowAt i store)))
+-- `AgreesBy` and `Agrees`, computed
+unfoldable pub agreesBy : List ℕ → List ℕ → Bool
+agreesBy lengths store = eqb (length store) 2048 && allBelow 64 (λ i. every (eqb 0) (drop (getD lengths i 0) (rowAt i store)))
+
+abbrev pub agrees : RecordTable → List ℕ → Bool
+agrees t store = agreesBy (t .lengths) store
+
+-- each number of a row is at most that of a limit
+abbrev pub Within : List ℕ → List ℕ → Type 0
+Within row limit = (j : ℕ) → j < length row → getD row j 0 ≤ getD limit j 0
+
+-- the limits that rows are compared with: 32 numbers that no number passes, and 32 zeros
+pub record Limits (limits : List ℕ) : Type 0 where
+  pub long : length limits ≡ 64
+  pub high : (j : ℕ) → j < 32 → getD limits j 0 ≡ 65535
+  pub low : ZeroFrom limits 32

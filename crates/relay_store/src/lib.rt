@@ -1,18 +1,17 @@
 // The relays of the route records, in a lent store of 64 rows of 32 numbers: row i holds those of the i-th record by address.
 // A row is written by one function alone, which is lent that row and no other.
 use flat_map::Place;
-use record_table::RecordTable;
 use standard::RelayList;
 use types::Nwk;
 ghost use mathlib.Core.Path.{_≡_};
 ghost use mathlib.Core.List.{[], map};
 ghost use Prim.Native.Nat.{_≤_, _<_};
-ghost use lib.ListN.{length, take};
+ghost use lib.ListN.{length, take, drop};
 ghost use Rattle.flat_map.specs.Shift.{shiftIn, shiftOut};
 ghost use Rattle.flat_map.specs.Table.{ZeroFrom};
 ghost use Rattle.standard.specs.Route.{nwk};
 ghost use Rattle.standard.specs.Tells.{Tells};
-ghost use Rattle.relay_store.specs.Store.{rowAt, withRow, onRows, rowOf, rowPut, PlaceWithin, blankRow, relaysOf, relayList, agrees};
+ghost use Rattle.relay_store.specs.Store.{rowAt, withRow, onRows, rowOf, rowPut, PlaceWithin, blankRow, relaysOf, relayList, agreesBy, Within, Limits};
 
 // The list that names no relay.
 pub fn no_relays() -> RelayList
@@ -41,16 +40,16 @@ fn read_row(row: &[u16], count: usize) -> RelayList
     l
 }
 
-// A row filled with the relays of a list, and with zeros after them.
-fn write_row(row: &mut [u16], l: RelayList)
-    requires { ⌜ (l .count ≤ 32) × (length (now row) ≡ 32) ⌝ }
-    ensures { λ _. ⌜ now (row .exit) ≡ rowOf (relaysOf l) ⌝ }
+// A row filled with the relays of a list from a place on, and with zeros after them.
+fn write_row(row: &mut [u16], l: RelayList, from: usize)
+    requires { ⌜ (l .count ≤ 32) × (from ≤ l .count) × (length (now row) ≡ 32) ⌝ }
+    ensures { λ _. ⌜ now (row .exit) ≡ rowOf (drop from (relaysOf l)) ⌝ }
 {
-    let count = l.count;
+    let n = l.count - from;
     let mut i: usize = 0;
     while i < 32 {
-        if i < count {
-            let a = l.addresses[i];
+        if i < n {
+            let a = l.addresses[from + i];
             row[i] = a.0;
         } else {
             row[i] = 0;
@@ -68,86 +67,112 @@ pub fn relays_at(store: &[u16], i: usize, count: usize) -> RelayList
     read_row(&store[start..start + 32], count)
 }
 
-// Row i of the store filled with a list's relays. The writer is lent that row, so that every other is as it was.
+// Row i of the store filled with a list's relays from a place on. The writer is lent that row, so that every other is as it was.
+pub fn set_row_from(store: &mut [u16], i: usize, l: RelayList, from: usize)
+    requires { ⌜ (l .count ≤ 32) × (from ≤ l .count) × (i < 64) × (length (now store) ≡ 2048) ⌝ }
+    ensures { λ _. ⌜ now (store .exit) ≡ withRow i (rowOf (drop from (relaysOf l))) (now (store .entry)) ⌝ }
+{
+    let start = 32 * i;
+    write_row(&mut store[start..start + 32], l, from);
+}
+
+// Row i of the store filled with a list's relays.
 pub fn set_row(store: &mut [u16], i: usize, l: RelayList)
     requires { ⌜ (l .count ≤ 32) × (i < 64) × (length (now store) ≡ 2048) ⌝ }
     ensures { λ _. ⌜ now (store .exit) ≡ withRow i (rowOf (relaysOf l)) (now (store .entry)) ⌝ }
 {
-    let start = 32 * i;
-    write_row(&mut store[start..start + 32], l);
+    set_row_from(store, i, l, 0);
 }
 
-// The rows from i on shifted to the next place; row i is left zero, and the last row is gone.
+// The rows from i on moved to the next place, number by number from the last; row i stays, and the last row is gone.
 fn shift_rows_up(store: &mut [u16], i: usize)
-    requires { ⌜ length (now store) ≡ 2048 ⌝ }
-    ensures { λ _. ⌜ now (store .exit) ≡ onRows (shiftIn i blankRow) (now (store .entry)) ⌝ }
+    requires { ⌜ (i < 64) × (length (now store) ≡ 2048) ⌝ }
+    ensures { λ _. ⌜ now (store .exit) ≡ onRows (shiftIn i (rowAt i (now (store .entry)))) (now (store .entry)) ⌝ }
 {
-    let mut carried = no_relays();
-    let mut j = i;
-    while j < 64 {
-        let next = relays_at(store, j, 32);
-        set_row(store, j, carried);
-        carried = next;
-        j += 1;
+    let first = 32 * i + 32;
+    let mut j: usize = 2048;
+    while first < j {
+        store[j - 1] = store[j - 33];
+        j -= 1;
     }
 }
 
-// The rows after i shifted to the place before; the last row is left zero.
+// The rows after i moved to the place before, number by number; the last row is left zero.
 pub fn shift_rows_down(store: &mut [u16], i: usize)
     requires { ⌜ (i < 64) × (length (now store) ≡ 2048) ⌝ }
     ensures { λ _. ⌜ now (store .exit) ≡ onRows (shiftOut i blankRow) (now (store .entry)) ⌝ }
 {
-    let mut j = i;
-    while j < 63 {
-        let next = relays_at(store, j + 1, 32);
-        set_row(store, j, next);
+    let mut j = 32 * i;
+    while j < 2016 {
+        store[j] = store[j + 32];
         j += 1;
     }
     set_row(store, 63, no_relays());
 }
 
-// A record's relays written to its row: over the one that is there, or with the rows after it shifted.
-pub fn put_row(store: &mut [u16], place: Place, l: RelayList)
-    requires { ⌜ (l .count ≤ 32) × PlaceWithin place × (length (now store) ≡ 2048) ⌝ }
-    ensures { λ _. ⌜ now (store .exit) ≡ onRows (rowPut place (rowOf (relaysOf l))) (now (store .entry)) ⌝ }
+// A record's relays, those of a list from a place on, written to its row: over the one that is there, or with the rows after it shifted.
+pub fn put_row(store: &mut [u16], place: Place, l: RelayList, from: usize)
+    requires { ⌜ (l .count ≤ 32) × (from ≤ l .count) × PlaceWithin place × (length (now store) ≡ 2048) ⌝ }
+    ensures { λ _. ⌜ now (store .exit) ≡ onRows (rowPut place (rowOf (drop from (relaysOf l)))) (now (store .entry)) ⌝ }
 {
     match place {
-        Place::Found(i) => set_row(store, i, l),
+        Place::Found(i) => set_row_from(store, i, l, from),
         Place::Missing(i) => {
             shift_rows_up(store, i);
-            set_row(store, i, l);
+            set_row_from(store, i, l, from);
         }
     }
 }
 
-// Whether the numbers of a row from `from` on are 0. All of them are read: a loop with no way out is done many numbers at a time.
-fn zero_after(row: &[u16], from: usize) -> bool
-    ensures { λ r. ⌜ Tells (ZeroFrom (now (row .entry)) from) r ⌝ }
+// Whether each number of a row is at most that of a limit. All of them are read: a loop with no way out is done many numbers at a time.
+fn within(row: &[u16], limit: &[u16]) -> bool
+    requires { ⌜ length (now limit) ≡ length (now row) ⌝ }
+    ensures { λ r. ⌜ Tells (Within (now (row .entry)) (now (limit .entry))) r ⌝ }
 {
-    let mut zero = true;
-    let mut i = from;
-    while i < row.len() {
-        zero &= row[i] == 0;
-        i += 1;
+    let mut ok = true;
+    let mut j: usize = 0;
+    while j < row.len() {
+        ok = ok & (row[j] <= limit[j]);
+        j += 1;
     }
-    zero
+    ok
 }
 
-// Whether a store agrees with a table: 64 rows, each zero after the relays of its record.
-pub fn agrees(t: RecordTable, store: &[u16]) -> bool
-    ensures { λ r. ⌜ r ≡ agrees t (now (store .entry)) ⌝ }
+// The limits of rows, over zeros.
+fn set_limits(limits: &mut [u16])
+    requires { ⌜ (length (now limits) ≡ 64) × ZeroFrom (now limits) 0 ⌝ }
+    ensures { λ _. ⌜ Limits (now (limits .exit)) ⌝ }
+{
+    let mut k: usize = 0;
+    while k < 32 {
+        limits[k] = 65535;
+        k += 1;
+    }
+}
+
+// Whether a store agrees with a table, of which it takes the numbers of relays: 64 rows, each zero after the relays of its record.
+// A row of n relays is compared with n numbers that none passes and zeros after them.
+pub fn agrees(lengths: &[u8], store: &[u16]) -> bool
+    requires { ⌜ length (now lengths) ≡ 64 ⌝ }
+    ensures { λ r. ⌜ r ≡ agreesBy (now (lengths .entry)) (now (store .entry)) ⌝ }
 {
     if store.len() != 2048 {
         return false;
     }
+    let mut limits: [u16; 64] = [0; 64];
+    set_limits(&mut limits);
+    let mut ok = true;
     let mut i: usize = 0;
     while i < 64 {
-        let e = t.entries[i];
-        let start = 32 * i;
-        if !zero_after(&store[start..start + 32], e.relay_count as usize) {
-            return false;
+        let mut n = lengths[i] as usize;
+        if 32 < n {
+            n = 32;
         }
+        let start = 32 * i;
+        let from = 32 - n;
+        let row = within(&store[start..start + 32], &limits[from..from + 32]);
+        ok = ok & row;
         i += 1;
     }
-    true
+    ok
 }

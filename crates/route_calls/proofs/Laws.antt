@@ -7,6 +7,7 @@ use mathlib.Core.Option.{Option, none, some, Option·map}
 use mathlib.Core.Path.{_≡_, refl, sym, ap, _∙_}
 use native.Mathlib.Omega.{arith}
 use borrow.Author.Tests.{le-leb, lt-leb}
+use lib.Dec.{leb}
 use lib.ListN.{length}
 use Rattle.types.specs.declared.Nwk.{Nwk}
 use Rattle.types.specs.declared.Refusal.the-variants.{RouteTableFull}
@@ -20,14 +21,11 @@ use Rattle.flat_map.proofs.Ordered.{lookup-key, lookup-put-same, lookup-put-oth
 use Rattle.flat_map.proofs.Fits.{room-known}
 use Rattle.flat_map.proofs.Query.{first-here, first-past, first-done}
 use Rattle.flat_map.specs.Table.{Each}
-use Rattle.route_table.specs.declared.RouteTable.{RouteTable}
-use Rattle.route_table.specs.Table.{blankRoute, WellFormed, rowsOf, tableOf}
-use Rattle.route_table.proofs.Rows.{table-fit}
+use Rattle.route_table.specs.Table.{blankRoute, Fits}
 use Rattle.search_tables.proofs.Packing.{route-or-key}
 use Rattle.route_calls.specs.declared.RouteAnswer.the-variants.{Refused, Done}
-use Rattle.route_calls.specs.declared.RouteStep.{RouteStep}
 use Rattle.route_calls.specs.declared.Checked.the-variants.{Sound, UnknownHop, Orphan}
-use Rattle.route_calls.specs.Answer.{stepTo, faultOf, checkedBy}
+use Rattle.route_calls.specs.Answer.{RouteStep, stepTo, faultOf, checkedBy}
 use Rattle.route_calls.proofs.Rules.{KeepsKey, sought-key, step-by, put-room}
 
 module _ (change : RouteEntry → RouteEntry) (same : KeepsKey change) (k : ℕ) (xs : List RouteEntry) where
@@ -67,23 +65,26 @@ unfolding restoreRoute
 restored-here d hop cost xs = lookup-put-same routeKey (restored d hop cost) xs
 
 -- a route stored, by what stood under its destination and how many places are free
-module _ (t : RouteTable) (w : WellFormed t) (e : RouteEntry) where
+module _ (xs : List RouteEntry) (f : Fits xs) (e : RouteEntry) where
   abbrev stored : RouteStep
-  stored = stepTo t (put routeKey e (rowsOf t))
+  stored = stepTo xs (put routeKey e xs)
 
   abbrev done : RouteStep
-  done = record { answer = Done; table = tableOf (put routeKey e (rowsOf t)) }
+  done = record { answer = Done; rows = put routeKey e xs }
 
-  pub full-refused : lookup routeKey (routeKey e) (rowsOf t) ≡ none → length (rowsOf t) ≡ 64 → stored ≡ record { answer = Refused RouteTableFull; table = t }
-  full-refused q n = step-by t _ false (put-room t w e ∙ lt-leb (countWith routeKey (routeKey e) (rowsOf t)) 64 (omega (arith, count-with-missing routeKey (routeKey e) (rowsOf t) q)))
+  room : leb (length (put routeKey e xs)) 64 ≡ leb (countWith routeKey (routeKey e) xs) 64
+  room = put-room xs (f .fit .ascending) e
 
-  pub known-done : (x : RouteEntry) → lookup routeKey (routeKey e) (rowsOf t) ≡ some x → stored ≡ done
-  known-done x q = step-by t _ true (put-room t w e ∙ le-leb _ 64 (room-known 64 routeKey blankRoute (rowsOf t) (table-fit t w) (routeKey e) x q))
+  pub full-refused : lookup routeKey (routeKey e) xs ≡ none → length xs ≡ 64 → stored ≡ record { answer = Refused RouteTableFull; rows = xs }
+  full-refused q n = step-by xs _ false (room ∙ lt-leb (countWith routeKey (routeKey e) xs) 64 (omega (arith, count-with-missing routeKey (routeKey e) xs q)))
 
-  pub free-done : length (rowsOf t) < 64 → stored ≡ done
-  free-done n = go (lookup routeKey (routeKey e) (rowsOf t)) refl where
-    go : (o : Option RouteEntry) → lookup routeKey (routeKey e) (rowsOf t) ≡ o → stored ≡ done
-    go none q = step-by t _ true (put-room t w e ∙ le-leb (countWith routeKey (routeKey e) (rowsOf t)) 64 (omega (arith, count-with-missing routeKey (routeKey e) (rowsOf t) q)))
+  pub known-done : (x : RouteEntry) → lookup routeKey (routeKey e) xs ≡ some x → stored ≡ done
+  known-done x q = step-by xs _ true (room ∙ le-leb _ 64 (room-known 64 routeKey blankRoute xs (f .fit) (routeKey e) x q))
+
+  pub free-done : length xs < 64 → stored ≡ done
+  free-done n = go (lookup routeKey (routeKey e) xs) refl where
+    go : (o : Option RouteEntry) → lookup routeKey (routeKey e) xs ≡ o → stored ≡ done
+    go none q = step-by xs _ true (room ∙ le-leb (countWith routeKey (routeKey e) xs) 64 (omega (arith, count-with-missing routeKey (routeKey e) xs q)))
     go (some x) q = known-done x q
 
 -- a faulty route that has its hop is an orphan

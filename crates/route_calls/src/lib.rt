@@ -1,20 +1,21 @@
-// The calls that look at the route table alone, and the check of routes against discoveries.
-use discovery_table::DiscoveryTable;
+// The calls that look at the route table alone, and the check of routes against discoveries, on columns that are lent.
+use flat_map::Place;
 use route_table::RouteLookup;
-use route_table::RouteTable;
 use standard::RouteEntry;
 use standard::Status;
 use types::Nwk;
 use types::Refusal;
 ghost use mathlib.Core.Path.{_≡_};
 ghost use mathlib.Core.Option.{some};
+ghost use lib.ListN.{take};
+ghost use Rattle.flat_map.specs.Seek.{placeOf};
 ghost use Rattle.standard.specs.declared.Status.the-variants.{DiscoveryFailed};
 ghost use Rattle.standard.specs.Calls.{changeRoute, restored, restoreRoute, sought, noteRelayed, statusAt, activeHop, hopAt, lacksHop, isFaulty, firstFault};
 ghost use Rattle.standard.specs.Ordered.{put};
 ghost use Rattle.standard.specs.Route.{routeKey, withStatus, used, recordKnown};
 ghost use Rattle.discovery_table.specs.Table as discovery;
-ghost use Rattle.route_table.specs.Table.{WellFormed, rowsOf, tableOf};
-ghost use Rattle.route_calls.specs.Answer.{stepTo, removal, statusAnswer, hopAnswer, faultOf, checkedBy};
+ghost use Rattle.route_table.specs.Table.{inColumns, WellFormed, rowsOf, Holds};
+ghost use Rattle.route_calls.specs.Answer.{stepTo, Leaves, LeavesWithout, statusAnswer, hopAnswer, faultOf, checkedBy};
 
 // The address that stands for a hop not known.
 const UNKNOWN_HOP: u16 = 0xFFFF;
@@ -25,16 +26,16 @@ pub enum RouteAnswer {
     Done,
 }
 
-// What such a call leaves: where it is refused, the table as it came.
-pub struct RouteStep {
+// The answer, and how many routes there are after it.
+pub struct RouteResult {
     pub answer: RouteAnswer,
-    pub table: RouteTable,
+    pub routes: usize,
 }
 
-// The table after a removal, and whether there was a route to remove.
+// Whether there was a route to remove, and how many there are after it.
 pub struct Removed {
     pub removed: bool,
-    pub table: RouteTable,
+    pub routes: usize,
 }
 
 // How a route stands, where there is one.
@@ -58,36 +59,96 @@ pub enum Checked {
 }
 
 // The search for a destination found no way: its route, whatever its status, is DiscoveryFailed.
-pub fn mark_discovery_failed(t: RouteTable, destination: Nwk) -> RouteTable
-    requires { ⌜ WellFormed t ⌝ }
-    ensures { λ r. ⌜ r ≡ tableOf (changeRoute (destination .0) (withStatus DiscoveryFailed) (rowsOf t)) ⌝ }
+pub fn mark_discovery_failed(
+    route_keys: &[u16],
+    route_words: &mut [u64],
+    route_usage: &mut [u32],
+    routes: usize,
+    destination: Nwk,
+)
+    requires { ⌜ WellFormed (inColumns (now «route_keys») (now «route_words») (now «route_usage») routes) ⌝ }
+    ensures { λ _. ⌜ Holds (inColumns (now («route_keys» .entry)) (now («route_words» .exit)) (now («route_usage» .exit)) routes) (changeRoute (destination .0) (withStatus DiscoveryFailed) (rowsOf (inColumns (now («route_keys» .entry)) (now («route_words» .entry)) (now («route_usage» .entry)) routes))) ⌝ }
 {
-    let RouteLookup::Found(e) = route_table::find(t, destination) else {
-        return t;
+    let Place::Found(i) = route_table::place_of(
+        route_keys,
+        route_words,
+        route_usage,
+        routes,
+        destination,
+    ) else {
+        return;
     };
-    route_table::put(t, route_entry::with_status(e, Status::DiscoveryFailed))
+    let e = route_table::entry_at(route_keys, route_words, route_usage, i);
+    route_table::set_at(
+        route_keys,
+        route_words,
+        route_usage,
+        routes,
+        i,
+        route_entry::with_status(e, Status::DiscoveryFailed),
+    );
 }
 
 // A frame was forwarded along the route to a destination.
-pub fn record_usage(t: RouteTable, destination: Nwk) -> RouteTable
-    requires { ⌜ WellFormed t ⌝ }
-    ensures { λ r. ⌜ r ≡ tableOf (changeRoute (destination .0) used (rowsOf t)) ⌝ }
+pub fn record_usage(
+    route_keys: &[u16],
+    route_words: &mut [u64],
+    route_usage: &mut [u32],
+    routes: usize,
+    destination: Nwk,
+)
+    requires { ⌜ WellFormed (inColumns (now «route_keys») (now «route_words») (now «route_usage») routes) ⌝ }
+    ensures { λ _. ⌜ Holds (inColumns (now («route_keys» .entry)) (now («route_words» .exit)) (now («route_usage» .exit)) routes) (changeRoute (destination .0) used (rowsOf (inColumns (now («route_keys» .entry)) (now («route_words» .entry)) (now («route_usage» .entry)) routes))) ⌝ }
 {
-    let RouteLookup::Found(e) = route_table::find(t, destination) else {
-        return t;
+    let Place::Found(i) = route_table::place_of(
+        route_keys,
+        route_words,
+        route_usage,
+        routes,
+        destination,
+    ) else {
+        return;
     };
-    route_table::put(t, route_entry::used(e))
+    let e = route_table::entry_at(route_keys, route_words, route_usage, i);
+    route_table::set_at(
+        route_keys,
+        route_words,
+        route_usage,
+        routes,
+        i,
+        route_entry::used(e),
+    );
 }
 
 // A source-routed frame of a concentrator shows that it holds our record.
-pub fn note_source_routed_frame(t: RouteTable, concentrator: Nwk) -> RouteTable
-    requires { ⌜ WellFormed t ⌝ }
-    ensures { λ r. ⌜ r ≡ tableOf (changeRoute (concentrator .0) recordKnown (rowsOf t)) ⌝ }
+pub fn note_source_routed_frame(
+    route_keys: &[u16],
+    route_words: &mut [u64],
+    route_usage: &mut [u32],
+    routes: usize,
+    concentrator: Nwk,
+)
+    requires { ⌜ WellFormed (inColumns (now «route_keys») (now «route_words») (now «route_usage») routes) ⌝ }
+    ensures { λ _. ⌜ Holds (inColumns (now («route_keys» .entry)) (now («route_words» .exit)) (now («route_usage» .exit)) routes) (changeRoute (concentrator .0) recordKnown (rowsOf (inColumns (now («route_keys» .entry)) (now («route_words» .entry)) (now («route_usage» .entry)) routes))) ⌝ }
 {
-    let RouteLookup::Found(e) = route_table::find(t, concentrator) else {
-        return t;
+    let Place::Found(i) = route_table::place_of(
+        route_keys,
+        route_words,
+        route_usage,
+        routes,
+        concentrator,
+    ) else {
+        return;
     };
-    route_table::put(t, route_entry::record_known(e))
+    let e = route_table::entry_at(route_keys, route_words, route_usage, i);
+    route_table::set_at(
+        route_keys,
+        route_words,
+        route_usage,
+        routes,
+        i,
+        route_entry::record_known(e),
+    );
 }
 
 // A route as a client hands it back on startup.
@@ -110,47 +171,97 @@ fn sought(e: RouteEntry) -> RouteEntry
     route_entry::with_status(e, Status::DiscoveryUnderway)
 }
 
-// A route is stored, unless it is new and no place is free.
-fn store(t: RouteTable, e: RouteEntry) -> RouteStep
-    requires { ⌜ WellFormed t ⌝ }
-    ensures { λ r. ⌜ r ≡ stepTo t (put routeKey e (rowsOf t)) ⌝ }
+// A route is stored at its place, unless it is new and no place is free.
+fn store(
+    route_keys: &mut [u16],
+    route_words: &mut [u64],
+    route_usage: &mut [u32],
+    routes: usize,
+    place: Place,
+    e: RouteEntry,
+) -> RouteResult
+    requires { ⌜ WellFormed (inColumns (now «route_keys») (now «route_words») (now «route_usage») routes) × (place ≡ placeOf (take routes (now «route_keys»)) (routeKey e)) ⌝ }
+    ensures { λ r. ⌜ Leaves (inColumns (now («route_keys» .exit)) (now («route_words» .exit)) (now («route_usage» .exit)) (r .routes)) (r .answer) (stepTo (rowsOf (inColumns (now («route_keys» .entry)) (now («route_words» .entry)) (now («route_usage» .entry)) routes)) (put routeKey e (rowsOf (inColumns (now («route_keys» .entry)) (now («route_words» .entry)) (now («route_usage» .entry)) routes)))) ⌝ }
 {
-    let destination = e.destination;
-    if !route_table::has_room(t, destination) {
-        return RouteStep {
+    if !columns::has_room(place, routes, 64) {
+        return RouteResult {
             answer: RouteAnswer::Refused(Refusal::RouteTableFull),
-            table: t,
+            routes,
         };
     }
-    let table = route_table::put(t, e);
-    RouteStep {
+    let n = route_table::put_at(route_keys, route_words, route_usage, routes, place, e);
+    RouteResult {
         answer: RouteAnswer::Done,
-        table,
+        routes: n,
     }
 }
 
 // A client hands back a route; the whole entry is written anew.
-pub fn restore_route(t: RouteTable, destination: Nwk, next_hop: Nwk, cost: u8) -> RouteStep
-    requires { ⌜ WellFormed t ⌝ }
-    ensures { λ r. ⌜ r ≡ stepTo t (restoreRoute destination «next_hop» cost (rowsOf t)) ⌝ }
+pub fn restore_route(
+    route_keys: &mut [u16],
+    route_words: &mut [u64],
+    route_usage: &mut [u32],
+    routes: usize,
+    destination: Nwk,
+    next_hop: Nwk,
+    cost: u8,
+) -> RouteResult
+    requires { ⌜ WellFormed (inColumns (now «route_keys») (now «route_words») (now «route_usage») routes) ⌝ }
+    ensures { λ r. ⌜ Leaves (inColumns (now («route_keys» .exit)) (now («route_words» .exit)) (now («route_usage» .exit)) (r .routes)) (r .answer) (stepTo (rowsOf (inColumns (now («route_keys» .entry)) (now («route_words» .entry)) (now («route_usage» .entry)) routes)) (restoreRoute destination «next_hop» cost (rowsOf (inColumns (now («route_keys» .entry)) (now («route_words» .entry)) (now («route_usage» .entry)) routes)))) ⌝ }
 {
-    store(t, restored(destination, next_hop, cost))
+    let place = route_table::place_of(route_keys, route_words, route_usage, routes, destination);
+    let e = restored(destination, next_hop, cost);
+    store(route_keys, route_words, route_usage, routes, place, e)
 }
 
 // A search of another's was relayed: the route to its destination is underway, unless it is Active.
-pub fn note_relayed_discovery(t: RouteTable, destination: Nwk) -> RouteStep
-    requires { ⌜ WellFormed t ⌝ }
-    ensures { λ r. ⌜ r ≡ stepTo t (noteRelayed destination (rowsOf t)) ⌝ }
+pub fn note_relayed_discovery(
+    route_keys: &mut [u16],
+    route_words: &mut [u64],
+    route_usage: &mut [u32],
+    routes: usize,
+    destination: Nwk,
+) -> RouteResult
+    requires { ⌜ WellFormed (inColumns (now «route_keys») (now «route_words») (now «route_usage») routes) ⌝ }
+    ensures { λ r. ⌜ Leaves (inColumns (now («route_keys» .exit)) (now («route_words» .exit)) (now («route_usage» .exit)) (r .routes)) (r .answer) (stepTo (rowsOf (inColumns (now («route_keys» .entry)) (now («route_words» .entry)) (now («route_usage» .entry)) routes)) (noteRelayed destination (rowsOf (inColumns (now («route_keys» .entry)) (now («route_words» .entry)) (now («route_usage» .entry)) routes)))) ⌝ }
 {
-    store(t, sought(search_tables::route_or(t, destination)))
+    let place = route_table::place_of(route_keys, route_words, route_usage, routes, destination);
+    let e = search_tables::route_or(
+        route_keys,
+        route_words,
+        route_usage,
+        routes,
+        place,
+        destination,
+    );
+    store(
+        route_keys,
+        route_words,
+        route_usage,
+        routes,
+        place,
+        sought(e),
+    )
 }
 
 // How the route to a destination stands.
-pub fn route_status(t: RouteTable, destination: Nwk) -> StatusAnswer
-    requires { ⌜ WellFormed t ⌝ }
-    ensures { λ r. ⌜ r ≡ statusAnswer (statusAt (destination .0) (rowsOf t)) ⌝ }
+pub fn route_status(
+    route_keys: &[u16],
+    route_words: &[u64],
+    route_usage: &[u32],
+    routes: usize,
+    destination: Nwk,
+) -> StatusAnswer
+    requires { ⌜ WellFormed (inColumns (now «route_keys») (now «route_words») (now «route_usage») routes) ⌝ }
+    ensures { λ r. ⌜ r ≡ statusAnswer (statusAt (destination .0) (rowsOf (inColumns (now («route_keys» .entry)) (now («route_words» .entry)) (now («route_usage» .entry)) routes))) ⌝ }
 {
-    let RouteLookup::Found(e) = route_table::find(t, destination) else {
+    let RouteLookup::Found(e) = route_table::find(
+        route_keys,
+        route_words,
+        route_usage,
+        routes,
+        destination,
+    ) else {
         return StatusAnswer::Absent;
     };
     let s = e.status;
@@ -173,31 +284,43 @@ fn hop_of(e: RouteEntry) -> HopAnswer
 }
 
 // The next hop to a destination, by its Active route.
-pub fn next_hop(t: RouteTable, destination: Nwk) -> HopAnswer
-    requires { ⌜ WellFormed t ⌝ }
-    ensures { λ r. ⌜ r ≡ hopAnswer (hopAt (destination .0) (rowsOf t)) ⌝ }
+pub fn next_hop(
+    route_keys: &[u16],
+    route_words: &[u64],
+    route_usage: &[u32],
+    routes: usize,
+    destination: Nwk,
+) -> HopAnswer
+    requires { ⌜ WellFormed (inColumns (now «route_keys») (now «route_words») (now «route_usage») routes) ⌝ }
+    ensures { λ r. ⌜ r ≡ hopAnswer (hopAt (destination .0) (rowsOf (inColumns (now («route_keys» .entry)) (now («route_words» .entry)) (now («route_usage» .entry)) routes))) ⌝ }
 {
-    let RouteLookup::Found(e) = route_table::find(t, destination) else {
+    let RouteLookup::Found(e) = route_table::find(
+        route_keys,
+        route_words,
+        route_usage,
+        routes,
+        destination,
+    ) else {
         return HopAnswer::NoRoute;
     };
     hop_of(e)
 }
 
 // The route to a destination is taken out, if there is one.
-pub fn remove_route(t: RouteTable, destination: Nwk) -> Removed
-    requires { ⌜ WellFormed t ⌝ }
-    ensures { λ r. ⌜ r ≡ removal (destination .0) (rowsOf t) ⌝ }
+pub fn remove_route(
+    route_keys: &mut [u16],
+    route_words: &mut [u64],
+    route_usage: &mut [u32],
+    routes: usize,
+    destination: Nwk,
+) -> Removed
+    requires { ⌜ WellFormed (inColumns (now «route_keys») (now «route_words») (now «route_usage») routes) ⌝ }
+    ensures { λ r. ⌜ LeavesWithout (inColumns (now («route_keys» .exit)) (now («route_words» .exit)) (now («route_usage» .exit)) (r .routes)) (r .removed) (destination .0) (rowsOf (inColumns (now («route_keys» .entry)) (now («route_words» .entry)) (now («route_usage» .entry)) routes)) ⌝ }
 {
-    let table = route_table::remove(t, destination);
-    let RouteLookup::Found(_) = route_table::find(t, destination) else {
-        return Removed {
-            removed: false,
-            table,
-        };
-    };
+    let n = route_table::remove(route_keys, route_words, route_usage, routes, destination);
     Removed {
-        removed: true,
-        table,
+        removed: n < routes,
+        routes: n,
     }
 }
 
@@ -210,9 +333,15 @@ fn lacks_hop(e: RouteEntry) -> bool
 }
 
 // Whether the check finds fault with a route.
-fn is_faulty(e: RouteEntry, discoveries: DiscoveryTable) -> bool
-    requires { ⌜ discovery.WellFormed discoveries ⌝ }
-    ensures { λ r. ⌜ r ≡ isFaulty (discovery.rowsOf discoveries) e ⌝ }
+fn is_faulty(
+    e: RouteEntry,
+    discovery_keys: &[u32],
+    discovery_words: &[u64],
+    discovery_ends: &[u64],
+    discoveries: usize,
+) -> bool
+    requires { ⌜ discovery.WellFormed (discovery.inColumns (now «discovery_keys») (now «discovery_words») (now «discovery_ends») discoveries) ⌝ }
+    ensures { λ r. ⌜ r ≡ isFaulty (discovery.rowsOf (discovery.inColumns (now («discovery_keys» .entry)) (now («discovery_words» .entry)) (now («discovery_ends» .entry)) discoveries)) e ⌝ }
 {
     if lacks_hop(e) {
         return true;
@@ -222,7 +351,13 @@ fn is_faulty(e: RouteEntry, discoveries: DiscoveryTable) -> bool
         return false;
     }
     let destination = e.destination;
-    !discovery_table::names(discoveries, destination)
+    !discovery_table::names(
+        discovery_keys,
+        discovery_words,
+        discovery_ends,
+        discoveries,
+        destination,
+    )
 }
 
 // A faulty route's kind of fault, and its destination.
@@ -237,15 +372,29 @@ fn fault_of(e: RouteEntry) -> Checked
 }
 
 // The first fault of the routes against the discoveries, in ascending order of destination.
-pub fn check(routes: RouteTable, discoveries: DiscoveryTable) -> Checked
-    requires { ⌜ WellFormed routes × discovery.WellFormed discoveries ⌝ }
-    ensures { λ r. ⌜ r ≡ checkedBy (firstFault (discovery.rowsOf discoveries) (rowsOf routes)) ⌝ }
+pub fn check(
+    route_keys: &[u16],
+    route_words: &[u64],
+    route_usage: &[u32],
+    routes: usize,
+    discovery_keys: &[u32],
+    discovery_words: &[u64],
+    discovery_ends: &[u64],
+    discoveries: usize,
+) -> Checked
+    requires { ⌜ WellFormed (inColumns (now «route_keys») (now «route_words») (now «route_usage») routes) × discovery.WellFormed (discovery.inColumns (now «discovery_keys») (now «discovery_words») (now «discovery_ends») discoveries) ⌝ }
+    ensures { λ r. ⌜ r ≡ checkedBy (firstFault (discovery.rowsOf (discovery.inColumns (now («discovery_keys» .entry)) (now («discovery_words» .entry)) (now («discovery_ends» .entry)) discoveries)) (rowsOf (inColumns (now («route_keys» .entry)) (now («route_words» .entry)) (now («route_usage» .entry)) routes))) ⌝ }
 {
-    let n = routes.count;
     let mut i: usize = 0;
-    while i < n {
-        let e = routes.entries[i];
-        if is_faulty(e, discoveries) {
+    while i < routes {
+        let e = route_table::entry_at(route_keys, route_words, route_usage, i);
+        if is_faulty(
+            e,
+            discovery_keys,
+            discovery_words,
+            discovery_ends,
+            discoveries,
+        ) {
             return fault_of(e);
         }
         i += 1;

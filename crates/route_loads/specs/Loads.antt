@@ -2,10 +2,10 @@
 -- A line is done, or no call on a state whose table has no room or is not well formed. Document 01, "Capacities and clock"; 8 for a list past its capacity.
 -- Assumes nothing.
 use Prim.Native.Nat.{ℕ}
-use mathlib.Core.Bool.{cond}
+use mathlib.Core.Bool.{cond, _||_}
 use mathlib.Core.List.{List, []}
 use lib.Dec.{leb, ltb}
-use lib.ListN.{set, take}
+use lib.ListN.{length, set}
 use Rattle.types.specs.declared.Nwk.{Nwk}
 use Rattle.types.specs.declared.Refusal.the-variants.{ListTooLong}
 use Rattle.numbers.specs.Said.{Said, ok, bad, refusedBy, spoken}
@@ -16,17 +16,17 @@ use Rattle.standard.specs.declared.RelayList.{RelayList}
 use Rattle.standard.specs.Ordered.{put, countWith}
 use Rattle.standard.specs.Route.{routeKey}
 use Rattle.standard.specs.Discovery.{discoveryKey}
-use Rattle.standard.specs.Record.{recordKey}
-use Rattle.flat_map.specs.Seek.{placeOf}
+use Rattle.standard.specs.Records.{RouteRecord, addressKey, recordFor}
 use Rattle.route_table.specs.Table as routes
-use Rattle.discovery_table.specs.declared.DiscoveryTable.{DiscoveryTable}
 use Rattle.discovery_table.specs.Table as discoveries
-use Rattle.record_table.specs.declared.RecordTable.{RecordTable}
 use Rattle.record_table.specs.Table as records
-use Rattle.relay_store.specs.Store.{agrees, onRows, rowPut, rowOf, relaysOf}
+use Rattle.relay_store.specs.Store.{agrees, relaysOf}
+use Rattle.relay_store.specs.Packed.{storeFor}
 use Rattle.routing.specs.declared.Routing.{Routing}
-use Rattle.routing.specs.Routes.{withRoutes}
-use Rattle.routing.specs.Records.{withRecords}
+use Rattle.routing.specs.State.{routeTable, discoveryTable, recordTable, stateOf, withTables}
+use Rattle.routing.specs.Routes.{routesIn, withRoutes}
+use Rattle.routing.specs.Queries.{discoveriesIn}
+use Rattle.routing.specs.Records.{recordsIn, withRecords}
 use Rattle.route_args.specs.Read.{relaysAt, routeAt, discoveryAt}
 use Rattle.route_loads.specs.declared.RoutingReply.{RoutingReply}
 
@@ -44,35 +44,25 @@ noCall s = replied s bad
 abbrev pub listTooLong : Routing → RoutingReply
 listTooLong s = replied s (refusedBy ListTooLong)
 
--- the state with its discovery table replaced
-abbrev pub withDiscoveries : Routing → DiscoveryTable → Routing
-withDiscoveries s t = record {
-  «mtorr_route_errors» = s .«mtorr_route_errors»;
-  «mtorr_delivery_failures» = s .«mtorr_delivery_failures»;
-  «route_table» = s .«route_table»;
-  «discovery_table» = t;
-  «route_record_table» = s .«route_record_table»;
-  «request_sequence_number» = s .«request_sequence_number»;
-}
+-- the state with one of its tables replaced
+abbrev pub withRouteTable : Routing → routes.RouteTable → Routing
+withRouteTable s t = withTables s t (discoveryTable s) (recordTable s)
+
+abbrev pub withDiscoveryTable : Routing → discoveries.DiscoveryTable → Routing
+withDiscoveryTable s t = withTables s (routeTable s) t (recordTable s)
+
+abbrev pub withRecordTable : Routing → records.RecordTable → Routing
+withRecordTable s t = withTables s (routeTable s) (discoveryTable s) t
 
 -- the last request id and the two trigger counters
 unfoldable pub putCounters : Routing → List ℕ → RoutingReply
-putCounters s args = loaded (record {
-  «mtorr_route_errors» = byteAt args 1;
-  «mtorr_delivery_failures» = byteAt args 2;
-  «route_table» = s .«route_table»;
-  «discovery_table» = s .«discovery_table»;
-  «route_record_table» = s .«route_record_table»;
-  «request_sequence_number» = byteAt args 0;
-})
+putCounters s args = loaded (stateOf (byteAt args 1) (byteAt args 2) (byteAt args 0) (routeTable s) (discoveryTable s) (recordTable s))
 
 -- a route under its key, over the one that is there or in a free place
 unfoldable pub routePut : RouteEntry → Routing → RoutingReply
 routePut e s =
-    cond (routes.wellFormed (s .«route_table»))
-    (cond (leb (countWith routeKey (routeKey e) (routes.rowsOf (s .«route_table»))) 64)
-    (loaded (withRoutes s (routes.tableOf (put routeKey e (routes.rowsOf (s .«route_table»))))))
-    (noCall s))
+    cond (routes.wellFormed (routeTable s))
+    (cond (leb (countWith routeKey (routeKey e) (routesIn s)) 64) (loaded (withRoutes s (put routeKey e (routesIn s)))) (noCall s))
     (noCall s)
 
 unfoldable pub putRoute : Routing → List ℕ → RoutingReply
@@ -81,37 +71,32 @@ putRoute s args = routePut (routeAt args 0) s
 -- a discovery under its key, over the one that is there or in a free place
 unfoldable pub discoveryPut : DiscoveryEntry → Routing → RoutingReply
 discoveryPut e s =
-    cond (discoveries.wellFormed (s .«discovery_table»))
-    (cond (leb (countWith discoveryKey (discoveryKey e) (discoveries.rowsOf (s .«discovery_table»))) 32)
-    (loaded (withDiscoveries s (discoveries.tableOf (put discoveryKey e (discoveries.rowsOf (s .«discovery_table»))))))
+    cond (discoveries.wellFormed (discoveryTable s))
+    (cond (leb (countWith discoveryKey (discoveryKey e) (discoveriesIn s)) 32)
+    (loaded (withDiscoveryTable s (discoveries.tableOf (put discoveryKey e (discoveriesIn s)))))
     (noCall s))
     (noCall s)
 
 unfoldable pub putDiscovery : Routing → List ℕ → RoutingReply
 putDiscovery s args = discoveryPut (discoveryAt args 0) s
 
--- a record's entry put under its destination, and its row at the same place of the store
-abbrev pub recordTablePut : Nwk → RelayList → RecordTable → RecordTable
-recordTablePut destination l t = records.tableOf (put recordKey (record { destination = destination; «relay_count» = l .count }) (records.rowsOf t))
-
-abbrev pub recordRowPut : Nwk → RelayList → RecordTable → List ℕ → List ℕ
-recordRowPut destination l t store = onRows (rowPut (placeOf (take (t .count) (t .keys)) (destination .0)) (rowOf (relaysOf l))) store
+-- a record under its destination, over the one that is there or in a free place; and the store after it
+abbrev pub recordsAfter : Nwk → RelayList → Routing → List ℕ → List RouteRecord
+recordsAfter destination l s store = put addressKey (recordFor destination (relaysOf l)) (recordsIn s store)
 
 unfoldable pub recordPut : Nwk → RelayList → Routing → List ℕ → RoutingReply
 recordPut destination l s store =
-    cond (records.wellFormed (s .«route_record_table»))
-    (cond (agrees (s .«route_record_table») store)
-    (cond (leb (countWith recordKey (destination .0) (records.rowsOf (s .«route_record_table»))) 64)
-    (loaded (withRecords s (recordTablePut destination l (s .«route_record_table»))))
-    (noCall s))
+    cond (records.wellFormed (recordTable s))
+    (cond (agrees (recordTable s) store)
+    (cond (leb (length (recordsAfter destination l s store)) 64) (loaded (withRecords s (recordsAfter destination l s store))) (noCall s))
     (noCall s))
     (noCall s)
 
 unfoldable pub recordPutStore : Nwk → RelayList → Routing → List ℕ → List ℕ
 recordPutStore destination l s store =
-    cond (records.wellFormed (s .«route_record_table»))
-    (cond (agrees (s .«route_record_table») store)
-    (cond (leb (countWith recordKey (destination .0) (records.rowsOf (s .«route_record_table»))) 64) (recordRowPut destination l (s .«route_record_table») store) store)
+    cond (records.wellFormed (recordTable s))
+    (cond (agrees (recordTable s) store)
+    (cond (leb (length (recordsAfter destination l s store)) 64) (storeFor (recordsAfter destination l s store)) store)
     store)
     store
 
@@ -121,30 +106,30 @@ putRecord s args store = cond (ltb 32 (relaysAt args 1 .count)) (listTooLong s) 
 unfoldable pub putRecordStore : Routing → List ℕ → List ℕ → List ℕ
 putRecordStore s args store = cond (ltb 32 (relaysAt args 1 .count)) store (recordPutStore (nwkAt args 0) (relaysAt args 1) s store)
 
--- damage: a table's count, and the key at a place within the table
+-- damage: a table's count, and the key at a place within the table, a number that its column holds
 unfoldable pub setRouteCount : Routing → List ℕ → RoutingReply
-setRouteCount s args = loaded (withRoutes s (record { keys = s .«route_table» .keys; entries = s .«route_table» .entries; count = numberAt args 0 }))
+setRouteCount s args = loaded (withRouteTable s (routes.inColumns (s .«route_keys») (s .«route_words») (s .«route_usage») (numberAt args 0)))
 
 unfoldable pub setRouteKey : Routing → List ℕ → RoutingReply
 setRouteKey s args =
-    cond (leb 64 (numberAt args 0))
+    cond (leb 64 (numberAt args 0) || ltb 65535 (numberAt args 1))
     (noCall s)
-    (loaded (withRoutes s (record { keys = set (s .«route_table» .keys) (numberAt args 0) (numberAt args 1); entries = s .«route_table» .entries; count = s .«route_table» .count })))
+    (loaded (withRouteTable s (routes.inColumns (set (s .«route_keys») (numberAt args 0) (numberAt args 1)) (s .«route_words») (s .«route_usage») (s .routes))))
 
 unfoldable pub setDiscoveryCount : Routing → List ℕ → RoutingReply
-setDiscoveryCount s args = loaded (withDiscoveries s (record { keys = s .«discovery_table» .keys; entries = s .«discovery_table» .entries; count = numberAt args 0 }))
+setDiscoveryCount s args = loaded (withDiscoveryTable s (discoveries.inColumns (s .«discovery_keys») (s .«discovery_words») (s .«discovery_ends») (numberAt args 0)))
 
 unfoldable pub setDiscoveryKey : Routing → List ℕ → RoutingReply
 setDiscoveryKey s args =
-    cond (leb 32 (numberAt args 0))
+    cond (leb 32 (numberAt args 0) || ltb 4294967295 (numberAt args 1))
     (noCall s)
-    (loaded (withDiscoveries s (record { keys = set (s .«discovery_table» .keys) (numberAt args 0) (numberAt args 1); entries = s .«discovery_table» .entries; count = s .«discovery_table» .count })))
+    (loaded (withDiscoveryTable s (discoveries.inColumns (set (s .«discovery_keys») (numberAt args 0) (numberAt args 1)) (s .«discovery_words») (s .«discovery_ends») (s .discoveries))))
 
 unfoldable pub setRecordCount : Routing → List ℕ → RoutingReply
-setRecordCount s args = loaded (withRecords s (record { keys = s .«route_record_table» .keys; entries = s .«route_record_table» .entries; count = numberAt args 0 }))
+setRecordCount s args = loaded (withRecordTable s (records.inColumns (s .«record_keys») (s .«record_lengths») (numberAt args 0)))
 
 unfoldable pub setRecordKey : Routing → List ℕ → RoutingReply
 setRecordKey s args =
-    cond (leb 64 (numberAt args 0))
+    cond (leb 64 (numberAt args 0) || ltb 65535 (numberAt args 1))
     (noCall s)
-    (loaded (withRecords s (record { keys = set (s .«route_record_table» .keys) (numberAt args 0) (numberAt args 1); entries = s .«route_record_table» .entries; count = s .«route_record_table» .count })))
+    (loaded (withRecordTable s (records.inColumns (set (s .«record_keys») (numberAt args 0) (numberAt args 1)) (s .«record_lengths») (s .records))))

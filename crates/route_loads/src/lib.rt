@@ -1,26 +1,16 @@
 // The lines that set the routing state up, and those that damage it: each puts one entry or one number, and nothing else.
 pub mod prints;
 
-use discovery_table::DiscoveryTable;
 use numbers::Answer;
-use record_table::RecordTable;
-use route_table::RouteTable;
 use routing::Routing;
 use standard::DiscoveryEntry;
-use standard::RecordEntry;
 use standard::RelayList;
 use standard::RouteEntry;
 use types::Nwk;
 use types::Refusal;
 ghost use mathlib.Core.Path.{_≡_};
 ghost use Prim.Native.Nat.{_≤_};
-ghost use lib.ListN.{length};
-ghost use Rattle.standard.specs.Ordered.{countWith};
-ghost use Rattle.standard.specs.Record.{recordKey};
-ghost use Rattle.record_table.specs.Table.{WellFormed, rowsOf};
-ghost use Rattle.routing.specs.Routes.{withRoutes};
-ghost use Rattle.routing.specs.Records.{withRecords};
-ghost use Rattle.route_loads.specs.Loads.{loaded, noCall, listTooLong, withDiscoveries, putCounters, routePut, putRoute, discoveryPut, putDiscovery, recordTablePut, recordRowPut, recordPut, recordPutStore, putRecord, putRecordStore, setRouteCount, setRouteKey, setDiscoveryCount, setDiscoveryKey, setRecordCount, setRecordKey};
+ghost use Rattle.route_loads.specs.Loads.{loaded, noCall, listTooLong, putCounters, routePut, putRoute, discoveryPut, putDiscovery, recordPut, recordPutStore, putRecord, putRecordStore, setRouteCount, setRouteKey, setDiscoveryCount, setDiscoveryKey, setRecordCount, setRecordKey};
 
 // What a call on the routing state is answered, and the state after it.
 pub struct RoutingReply {
@@ -52,33 +42,6 @@ fn refuse_list(s: Routing) -> RoutingReply
     RoutingReply { answer, state: s }
 }
 
-// The state with this route table.
-fn with_route_table(s: Routing, t: RouteTable) -> Routing
-    ensures { λ r. ⌜ r ≡ withRoutes s t ⌝ }
-{
-    let mut x = s;
-    x.route_table = t;
-    x
-}
-
-// The state with this discovery table.
-fn with_discovery_table(s: Routing, t: DiscoveryTable) -> Routing
-    ensures { λ r. ⌜ r ≡ withDiscoveries s t ⌝ }
-{
-    let mut x = s;
-    x.discovery_table = t;
-    x
-}
-
-// The state with this record table.
-fn with_record_table(s: Routing, t: RecordTable) -> Routing
-    ensures { λ r. ⌜ r ≡ withRecords s t ⌝ }
-{
-    let mut x = s;
-    x.route_record_table = t;
-    x
-}
-
 // The last request id and the two trigger counters.
 pub fn put_counters(s: Routing, args: &[u64]) -> RoutingReply
     ensures { λ r. ⌜ r ≡ putCounters s (now (args .entry)) ⌝ }
@@ -97,16 +60,23 @@ pub fn put_counters(s: Routing, args: &[u64]) -> RoutingReply
 fn load_route(s: Routing, e: RouteEntry) -> RoutingReply
     ensures { λ r. ⌜ r ≡ routePut e s ⌝ }
 {
-    let t = s.route_table;
-    if !route_table::well_formed(t) {
+    let mut keys = s.route_keys;
+    let mut words = s.route_words;
+    let mut usage = s.route_usage;
+    if !route_table::well_formed(&keys, &words, &usage, s.routes) {
         return no_call(s);
     }
     let d = e.destination;
-    if !route_table::has_room(t, d) {
+    let place = route_table::place_of(&keys, &words, &usage, s.routes, d);
+    if !columns::has_room(place, s.routes, 64) {
         return no_call(s);
     }
-    let u = route_table::put(t, e);
-    let x = with_route_table(s, u);
+    let n = route_table::put_at(&mut keys, &mut words, &mut usage, s.routes, place, e);
+    let mut x = s;
+    x.route_keys = keys;
+    x.route_words = words;
+    x.route_usage = usage;
+    x.routes = n;
     load(x)
 }
 
@@ -122,16 +92,30 @@ pub fn put_route(s: Routing, args: &[u64]) -> RoutingReply
 fn load_discovery(s: Routing, e: DiscoveryEntry) -> RoutingReply
     ensures { λ r. ⌜ r ≡ discoveryPut e s ⌝ }
 {
-    let t = s.discovery_table;
-    if !discovery_table::well_formed(t) {
+    let mut keys = s.discovery_keys;
+    let mut words = s.discovery_words;
+    let mut ends = s.discovery_ends;
+    if !discovery_table::well_formed(&keys, &words, &ends, s.discoveries) {
         return no_call(s);
     }
     let d = e.source_address;
-    if !discovery_table::has_room(t, d, e.route_request_id) {
+    let place = discovery_table::place_of(
+        &keys,
+        &words,
+        &ends,
+        s.discoveries,
+        d,
+        e.route_request_id,
+    );
+    if !columns::has_room(place, s.discoveries, 32) {
         return no_call(s);
     }
-    let u = discovery_table::put(t, e);
-    let x = with_discovery_table(s, u);
+    let n = discovery_table::put_at(&mut keys, &mut words, &mut ends, s.discoveries, place, e);
+    let mut x = s;
+    x.discovery_keys = keys;
+    x.discovery_words = words;
+    x.discovery_ends = ends;
+    x.discoveries = n;
     load(x)
 }
 
@@ -143,41 +127,38 @@ pub fn put_discovery(s: Routing, args: &[u64]) -> RoutingReply
     load_discovery(s, e)
 }
 
-// A record's row written to the store, and its entry to the table.
-fn write_record(t: RecordTable, store: &mut [u16], destination: Nwk, l: RelayList) -> RecordTable
-    requires { ⌜ WellFormed t × (countWith recordKey (destination .0) (rowsOf t) ≤ 64) × (length (now store) ≡ 2048) × (l .count ≤ 32) ⌝ }
-    ensures { λ r. ⌜ r ≡ recordTablePut destination l t ⌝ }
-    ensures { λ _. ⌜ now (store .exit) ≡ recordRowPut destination l t (now (store .entry)) ⌝ }
-{
-    let place = record_table::place_of(t, destination);
-    relay_store::put_row(store, place, l);
-    record_table::put(
-        t,
-        RecordEntry {
-            destination,
-            relay_count: l.count as u8,
-        },
-    )
-}
-
 // A record under its destination, if there is room in a table that is well formed and that the store agrees with.
 fn load_record(s: Routing, store: &mut [u16], destination: Nwk, l: RelayList) -> RoutingReply
     requires { ⌜ l .count ≤ 32 ⌝ }
     ensures { λ r. ⌜ r ≡ recordPut destination l s (now (store .entry)) ⌝ }
     ensures { λ _. ⌜ now (store .exit) ≡ recordPutStore destination l s (now (store .entry)) ⌝ }
 {
-    let t = s.route_record_table;
-    if !record_table::well_formed(t) {
+    let mut keys = s.record_keys;
+    let mut lengths = s.record_lengths;
+    if !record_table::well_formed(&keys, &lengths, s.records) {
         return no_call(s);
     }
-    if !relay_store::agrees(t, store) {
+    if !relay_store::agrees(&lengths, store) {
         return no_call(s);
     }
-    if !record_table::has_room(t, destination) {
+    let place = record_table::place_of(&keys, &lengths, s.records, destination);
+    if !columns::has_room(place, s.records, 64) {
         return no_call(s);
     }
-    let u = write_record(t, store, destination, l);
-    let x = with_record_table(s, u);
+    let n = route_record::put_record(
+        &mut keys,
+        &mut lengths,
+        s.records,
+        store,
+        place,
+        destination,
+        l,
+        0,
+    );
+    let mut x = s;
+    x.record_keys = keys;
+    x.record_lengths = lengths;
+    x.records = n;
     load(x)
 }
 
@@ -199,9 +180,8 @@ pub fn set_route_count(s: Routing, args: &[u64]) -> RoutingReply
     ensures { λ r. ⌜ r ≡ setRouteCount s (now (args .entry)) ⌝ }
 {
     let n = numbers::at(args, 0) as usize;
-    let mut t = s.route_table;
-    t.count = n;
-    let x = with_route_table(s, t);
+    let mut x = s;
+    x.routes = n;
     load(x)
 }
 
@@ -211,12 +191,13 @@ pub fn set_route_key(s: Routing, args: &[u64]) -> RoutingReply
 {
     let i = numbers::at(args, 0) as usize;
     let k = numbers::at(args, 1);
-    if 64 <= i {
+    if (64 <= i) | (65535 < k) {
         return no_call(s);
     }
-    let mut t = s.route_table;
-    t.keys[i] = k;
-    let x = with_route_table(s, t);
+    let mut keys = s.route_keys;
+    keys[i] = k as u16;
+    let mut x = s;
+    x.route_keys = keys;
     load(x)
 }
 
@@ -225,9 +206,8 @@ pub fn set_discovery_count(s: Routing, args: &[u64]) -> RoutingReply
     ensures { λ r. ⌜ r ≡ setDiscoveryCount s (now (args .entry)) ⌝ }
 {
     let n = numbers::at(args, 0) as usize;
-    let mut t = s.discovery_table;
-    t.count = n;
-    let x = with_discovery_table(s, t);
+    let mut x = s;
+    x.discoveries = n;
     load(x)
 }
 
@@ -237,12 +217,13 @@ pub fn set_discovery_key(s: Routing, args: &[u64]) -> RoutingReply
 {
     let i = numbers::at(args, 0) as usize;
     let k = numbers::at(args, 1);
-    if 32 <= i {
+    if (32 <= i) | (4294967295 < k) {
         return no_call(s);
     }
-    let mut t = s.discovery_table;
-    t.keys[i] = k;
-    let x = with_discovery_table(s, t);
+    let mut keys = s.discovery_keys;
+    keys[i] = k as u32;
+    let mut x = s;
+    x.discovery_keys = keys;
     load(x)
 }
 
@@ -251,9 +232,8 @@ pub fn set_record_count(s: Routing, args: &[u64]) -> RoutingReply
     ensures { λ r. ⌜ r ≡ setRecordCount s (now (args .entry)) ⌝ }
 {
     let n = numbers::at(args, 0) as usize;
-    let mut t = s.route_record_table;
-    t.count = n;
-    let x = with_record_table(s, t);
+    let mut x = s;
+    x.records = n;
     load(x)
 }
 
@@ -263,11 +243,12 @@ pub fn set_record_key(s: Routing, args: &[u64]) -> RoutingReply
 {
     let i = numbers::at(args, 0) as usize;
     let k = numbers::at(args, 1);
-    if 64 <= i {
+    if (64 <= i) | (65535 < k) {
         return no_call(s);
     }
-    let mut t = s.route_record_table;
-    t.keys[i] = k;
-    let x = with_record_table(s, t);
+    let mut keys = s.record_keys;
+    keys[i] = k as u16;
+    let mut x = s;
+    x.record_keys = keys;
     load(x)
 }

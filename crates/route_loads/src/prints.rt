@@ -1,8 +1,5 @@
-// The lines that print the routing state, each as numbers: counters, routes, discoveries, records. The arrays are read as they are.
-use discovery_table::DiscoveryTable;
+// The lines that print the routing state, each as numbers: counters, routes, discoveries, records. The columns are read as they are.
 use numbers::Answer;
-use record_table::RecordTable;
-use route_table::RouteTable;
 use routing::Routing;
 use standard::RelayList;
 use types::Nwk;
@@ -11,6 +8,7 @@ ghost use mathlib.Core.List.{_++_};
 ghost use Prim.Native.Nat.{_<_, min};
 ghost use Rattle.numbers.specs.Said.{ok, spoken};
 ghost use Rattle.lines.specs.Lines.{lineSaid};
+ghost use Rattle.routing.specs.State.{routeTable, discoveryTable, recordTable};
 ghost use Rattle.route_loads.specs.Prints.{relaysHeld, counterLine, routeLines, discoveryLines, recordLines, routingLines, afterRoutes, lineCount};
 
 // The relays that a row of a store holds; places past the store's end read 0.
@@ -48,66 +46,71 @@ fn counter_line(s: Routing) -> Answer
 }
 
 // The line of a route.
-fn route_line(t: RouteTable, i: usize) -> Answer
-    requires { ⌜ i < min (t .count) 64 ⌝ }
-    ensures { λ r. ⌜ r ≡ spoken (lineSaid (routeLines t) i) ⌝ }
+fn route_line(s: Routing, i: usize) -> Answer
+    requires { ⌜ i < min (s .routes) 64 ⌝ }
+    ensures { λ r. ⌜ r ≡ spoken (lineSaid (routeLines (routeTable s)) i) ⌝ }
 {
-    let e = t.entries[i];
+    let keys = s.route_keys;
+    let words = s.route_words;
+    let usage = s.route_usage;
+    let e = route_table::entry_at(&keys, &words, &usage, i);
     route_answers::route_values(4, e)
 }
 
 // The line of a discovery.
-fn discovery_line(t: DiscoveryTable, i: usize) -> Answer
-    requires { ⌜ i < min (t .count) 32 ⌝ }
-    ensures { λ r. ⌜ r ≡ spoken (lineSaid (discoveryLines t) i) ⌝ }
+fn discovery_line(s: Routing, i: usize) -> Answer
+    requires { ⌜ i < min (s .discoveries) 32 ⌝ }
+    ensures { λ r. ⌜ r ≡ spoken (lineSaid (discoveryLines (discoveryTable s)) i) ⌝ }
 {
-    let e = t.entries[i];
+    let keys = s.discovery_keys;
+    let words = s.discovery_words;
+    let ends = s.discovery_ends;
+    let e = discovery_table::entry_at(&keys, &words, &ends, i);
     route_answers::discovery_values(5, e)
 }
 
 // The line of a record.
-fn record_line(t: RecordTable, i: usize, store: &[u16]) -> Answer
-    requires { ⌜ i < min (t .count) 64 ⌝ }
-    ensures { λ r. ⌜ r ≡ spoken (lineSaid (recordLines t (now (store .entry))) i) ⌝ }
+fn record_line(s: Routing, i: usize, store: &[u16]) -> Answer
+    requires { ⌜ i < min (s .records) 64 ⌝ }
+    ensures { λ r. ⌜ r ≡ spoken (lineSaid (recordLines (recordTable s) (now (store .entry))) i) ⌝ }
 {
-    let e = t.entries[i];
+    let keys = s.record_keys;
+    let lengths = s.record_lengths;
+    let e = record_table::entry_at(&keys, &lengths, i);
     let d = e.destination;
     let l = row_relays(store, i, e.relay_count as usize);
     route_answers::record_values(6, d, l)
 }
 
 // A line of the records.
-fn from_records(t: RecordTable, i: usize, store: &[u16]) -> Answer
-    ensures { λ r. ⌜ r ≡ spoken (lineSaid (recordLines t (now (store .entry))) i) ⌝ }
+fn from_records(s: Routing, i: usize, store: &[u16]) -> Answer
+    ensures { λ r. ⌜ r ≡ spoken (lineSaid (recordLines (recordTable s) (now (store .entry))) i) ⌝ }
 {
-    let n = numbers::at_most(t.count, 64);
+    let n = numbers::at_most(s.records, 64);
     if n <= i {
         return numbers::no_call();
     }
-    record_line(t, i, store)
+    record_line(s, i, store)
 }
 
 // A line of the discoveries or of what comes after them.
 fn from_discoveries(s: Routing, i: usize, store: &[u16]) -> Answer
     ensures { λ r. ⌜ r ≡ spoken (lineSaid (afterRoutes s (now (store .entry))) i) ⌝ }
 {
-    let t = s.discovery_table;
-    let n = numbers::at_most(t.count, 32);
+    let n = numbers::at_most(s.discoveries, 32);
     if i < n {
-        return discovery_line(t, i);
+        return discovery_line(s, i);
     }
-    let u = s.route_record_table;
-    from_records(u, i - n, store)
+    from_records(s, i - n, store)
 }
 
 // A line of the routes or of what comes after them.
 fn from_routes(s: Routing, i: usize, store: &[u16]) -> Answer
-    ensures { λ r. ⌜ r ≡ spoken (lineSaid (routeLines (s .«route_table») ++ afterRoutes s (now (store .entry))) i) ⌝ }
+    ensures { λ r. ⌜ r ≡ spoken (lineSaid (routeLines (routeTable s) ++ afterRoutes s (now (store .entry))) i) ⌝ }
 {
-    let t = s.route_table;
-    let n = numbers::at_most(t.count, 64);
+    let n = numbers::at_most(s.routes, 64);
     if i < n {
-        return route_line(t, i);
+        return route_line(s, i);
     }
     from_discoveries(s, i - n, store)
 }
@@ -126,11 +129,8 @@ pub fn line(s: Routing, i: usize, store: &[u16]) -> Answer
 pub fn line_count(s: Routing) -> usize
     ensures { λ r. ⌜ r ≡ lineCount s ⌝ }
 {
-    let routes = s.route_table;
-    let discoveries = s.discovery_table;
-    let records = s.route_record_table;
-    let a = numbers::at_most(routes.count, 64);
-    let b = numbers::at_most(discoveries.count, 32);
-    let c = numbers::at_most(records.count, 64);
+    let a = numbers::at_most(s.routes, 64);
+    let b = numbers::at_most(s.discoveries, 32);
+    let c = numbers::at_most(s.records, 64);
     1 + (a + (b + c))
 }

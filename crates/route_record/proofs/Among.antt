@@ -2,7 +2,7 @@
 -- which are fewer than all, so that its record never names the whole list when the two are compared.
 use Prim.Native.Nat.{ℕ, _<_}
 use native.Mathlib.Omega.{arith}
-use mathlib.Core.Bool.{Bool, true, false, not, _||_, false≢true}
+use mathlib.Core.Bool.{Bool, true, false, not, false≢true}
 use mathlib.Core.List.{List, [], _∷_}
 use mathlib.Core.Option.{some}
 use mathlib.Core.Path.{_≡_, refl, sym, ap, _∙_}
@@ -13,16 +13,9 @@ use Rattle.types.specs.declared.Nwk.{Nwk}
 use Rattle.standard.specs.Ordered.{lookup, put}
 use Rattle.standard.specs.Records.{RouteRecord, addressKey, recordFor, relaysStored, otherRelays, recordChanged}
 use Rattle.flat_map.proofs.Ordered.{lookup-put-same, lookup-put-other}
+use Rattle.route_record.specs.Answer.{among}
 use Rattle.route_record.proofs.Relays.{other-length}
-
--- an address is one of the relays
-abbrev pub among : ℕ → List Nwk → Bool
-among k [] = false
-among k (r ∷ rs) = eqb (r .0) k || among k rs
-
-neither : (a b : Bool) → (a || b) ≡ false → (a ≡ false) × (b ≡ false)
-neither true b e = absurd (false≢true (sym e))
-neither false b e = (refl, e)
+use Rattle.route_record.proofs.Room.{neither, first}
 
 -- the relays' records leave that of an address that is none of them
 stored-other : (k : ℕ) (relays : List Nwk) (xs : List RouteRecord) → among k relays ≡ false → lookup addressKey k (relaysStored relays xs) ≡ lookup addressKey k xs
@@ -37,10 +30,6 @@ record Fewer (k : ℕ) (relays : List Nwk) (xs : List RouteRecord) : Type 0 wher
   pub x : RouteRecord
   pub fewer : length (x .relays) < length relays
   pub held : lookup addressKey k (relaysStored relays xs) ≡ some x
-
-first : (a b : Bool) → (a || b) ≡ true → b ≡ false → a ≡ true
-first true b e n = refl
-first false b e n = absurd (false≢true (sym n ∙ e))
 
 stored-among : (k : ℕ) (relays : List Nwk) (xs : List RouteRecord) → among k relays ≡ true → Fewer k relays xs
 unfolding relaysStored

@@ -4,40 +4,18 @@ use Prim.Native.Nat.{ℕ, _+_, _-_, _<_}
 use native.Mathlib.Omega.{arith}
 use mathlib.Core.Bool.{false}
 use mathlib.Core.List.{List, [], _∷_, _++_, map, map-id}
-use mathlib.Core.Option.{Option, none, some}
-use mathlib.Core.Path.{_≡_, refl, sym, ap, _∙_, subst}
+use mathlib.Core.Path.{_≡_, sym, ap, _∙_, subst}
 use borrow.Author.Tests.{leb-false, lt-leb}
 use lib.Dec.{leb}
 use lib.ListN.{length, length-map}
 use Rattle.types.specs.declared.Nwk.{Nwk}
-use Rattle.standard.specs.Ordered.{Asc, Ascending, lookup, countWith}
+use Rattle.standard.specs.Ordered.{Asc}
 use Rattle.standard.specs.Records.{addressKey, recordStored}
-use Rattle.flat_map.proofs.Ordered.{ascending-put, length-put, count-with-found, count-with-missing}
-use Rattle.record_table.specs.declared.RecordTable.{RecordTable}
+use Rattle.record_table.specs.Table.{RecordTable}
 use Rattle.relay_store.specs.Packed.{recordsOf, Together}
-use Rattle.route_record.specs.Answer.{withAddress, withRelays, oneMore, newAddresses}
+use Rattle.route_record.specs.Answer.{newAddresses}
 use Rattle.route_record.proofs.Held.{fits}
-use Rattle.route_record.proofs.Room.{stored-count}
-
--- one address more
-length-with : (a : Nwk) (ks : List ℕ) → Ascending (λ n. n) ks → length (withAddress a ks) ≡ oneMore (lookup (λ n. n) (a .0) ks) + length ks
-length-with a ks asc = length-put (λ n. n) (a .0) ks asc ∙ by (lookup (λ n. n) (a .0) ks) refl where
-  by : (o : Option ℕ) → lookup (λ n. n) (a .0) ks ≡ o → countWith (λ n. n) (a .0) ks ≡ oneMore o + length ks
-  by none e = omega (arith, count-with-missing (λ n. n) (a .0) ks e)
-  by (some k) e = omega (arith, count-with-found (λ n. n) (a .0) k ks e)
-
--- and all of them
-length-relays : (relays : List Nwk) (ks : List ℕ) → Ascending (λ n. n) ks → length (withRelays relays ks) ≡ newAddresses relays ks + length ks
-unfolding withRelays newAddresses
-length-relays [] ks asc = omega arith
-length-relays (r ∷ rs) ks asc =
-    omega (arith, length-relays rs (withAddress r ks) (ascending-put (λ n. n) (r .0) ks asc), length-with r ks asc)
-
--- the source comes last
-source-last : (source : Nwk) (relays : List Nwk) (ks : List ℕ) → withAddress source (withRelays relays ks) ≡ withRelays (relays ++ (source ∷ [])) ks
-unfolding withRelays
-source-last source [] ks = refl
-source-last source (r ∷ rs) ks = source-last source rs (withAddress r ks)
+use Rattle.route_record.proofs.Room.{stored-count, length-relays, source-last}
 
 module _ (t : RecordTable) (s : List ℕ) (g : Together t s) (source : Nwk) (relays : List Nwk) where
   pub stored-length : length (recordStored source relays (recordsOf t s)) ≡ newAddresses (relays ++ (source ∷ [])) (map addressKey (recordsOf t s)) + length (recordsOf t s)

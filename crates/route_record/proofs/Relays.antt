@@ -1,23 +1,23 @@
 -- Lists of relays taken apart one relay at a time, compared from the front, and what their number says of the way.
 -- Each law is read off the definition.
 use Prim.Native.Nat.{ℕ, suc, _+_, _<_, _≤_}
+use native.Mathlib.Numerals.{add-one}
 use native.Mathlib.Omega.{arith}
 use mathlib.Core.Bool.{Bool, true, false, _&&_}
-use mathlib.Core.List.{List, [], _∷_, map}
+use mathlib.Core.List.{List, [], _∷_, _++_, map}
 use mathlib.Core.Option.{some}
 use mathlib.Core.Path.{_≡_, refl, ap, _∙_}
 use borrow.Author.Tests.{eq-eqb, ne-eqb, lt-ltb, le-ltb}
 use lib.Dec.{eqb}
-use lib.ListN.{length, take, drop, getD, length-map, length-drop}
-use lib.Seq.{getD-take, getD-drop, length-take-le}
+use lib.ListN.{length, take, drop, getD, length-map, List·getD-map}
+use lib.Seq.{take-suc, getD-take, length-take-le}
 use Rattle.types.specs.declared.Nwk.{Nwk}
 use Rattle.standard.specs.declared.RelayList.{RelayList}
 use Rattle.standard.specs.declared.RecordRoute.the-variants.{Direct, SourceRoute}
 use Rattle.standard.specs.Records.{RouteRecord, sameRelays, noWay, wayBy}
 use Rattle.standard.specs.Route.{nwk}
 use Rattle.flat_map.proofs.Query.{rest-step, rest-done}
-use Rattle.relay_store.specs.Store.{relaysOf, relayList}
-use Rattle.relay_store.proofs.Cells.{list-relays, list-count}
+use Rattle.relay_store.specs.Store.{relaysOf}
 use Rattle.route_record.proofs.Held.{relays-count}
 
 module _ (l : RelayList) (long : length (l .addresses) ≡ 32) (few : l .count ≤ 32) (i : ℕ) where
@@ -30,18 +30,36 @@ module _ (l : RelayList) (long : length (l .addresses) ≡ 32) (few : l .count �
   pub relay-end : l .count ≤ i → drop i (relaysOf l) ≡ []
   relay-end h = rest-done (relaysOf l) i (omega (arith, relays-count l long few))
 
-  pub relay-past : (from : ℕ) → from + i < l .count → getD (drop from (relaysOf l)) i (nwk 0) ≡ getD (l .addresses) (from + i) (nwk 0)
-  relay-past from h = getD-drop from (relaysOf l) i (nwk 0) ∙ getD-take (l .count) (l .addresses) (from + i) (nwk 0) h
+  -- and the relays up to it end with it
+  pub relays-more : i < l .count → take (i + 1) (relaysOf l) ≡ take i (relaysOf l) ++ (getD (l .addresses) i (nwk 0) ∷ [])
+  relays-more h =
+      ap (λ (n : ℕ). take n (relaysOf l)) (add-one i)
+      ∙ take-suc (relaysOf l) i (nwk 0) (omega (arith, relays-count l long few))
+      ∙ ap (λ (a : Nwk). take i (relaysOf l) ++ (a ∷ [])) (getD-take (l .count) (l .addresses) i (nwk 0) h)
 
--- the first relays of two lists compared
-pub same-first : {xs ys r s : List Nwk} {a b : Nwk} → xs ≡ a ∷ r → ys ≡ b ∷ s → a .0 ≡ b .0 → sameRelays xs ys ≡ sameRelays r s
-same-first {r = r} {s = s} {a = a} {b = b} p q e = rw (p, q, eq-eqb (a .0) (b .0) e)
+-- the first n numbers of a row, as relays, from i on
+module _ (row : List ℕ) (n : ℕ) (h : n ≤ length row) (i : ℕ) where
+  many : length (map nwk (take n row)) ≡ n
+  many = length-map (take n row) nwk ∙ length-take-le n row h
 
-pub other-first : {xs ys r s : List Nwk} {a b : Nwk} → xs ≡ a ∷ r → ys ≡ b ∷ s → (a .0 ≡ b .0 → ⊥) → sameRelays xs ys ≡ false
-other-first {a = a} {b = b} p q n = rw (p, q, ne-eqb (a .0) (b .0) n)
+  pub row-next : i < n → drop i (map nwk (take n row)) ≡ nwk (getD row i 0) ∷ drop (i + 1) (map nwk (take n row))
+  row-next l =
+      rest-step (map nwk (take n row)) i (nwk 0) (omega (arith, many))
+      ∙ ap (λ (a : Nwk). a ∷ drop (i + 1) (map nwk (take n row))) (List·getD-map nwk (take n row) i 0 ∙ ap nwk (getD-take n row i 0 l))
 
-pub same-end : {xs ys : List Nwk} → xs ≡ [] → ys ≡ [] → sameRelays xs ys ≡ true
-same-end p q = rw (p, q)
+  pub row-end : n ≤ i → drop i (map nwk (take n row)) ≡ []
+  row-end l = rest-done (map nwk (take n row)) i (omega (arith, many))
+
+-- the first relays of two lists compared, beside what the answer is so far
+pub same-turn : {xs ys r s : List Nwk} {a b : Nwk} → xs ≡ a ∷ r → ys ≡ b ∷ s → (so : Bool) → ((so && eqb (a .0) (b .0)) && sameRelays r s) ≡ (so && sameRelays xs ys)
+same-turn {r = r} {s = s} {a = a} {b = b} p q so = rw (p, q) (go so) where
+  go : (so : Bool) → ((so && eqb (a .0) (b .0)) && sameRelays r s) ≡ (so && (eqb (a .0) (b .0) && sameRelays r s))
+  go true = refl
+  go false = refl
+
+pub same-end : {xs ys : List Nwk} → xs ≡ [] → ys ≡ [] → (so : Bool) → so ≡ (so && sameRelays xs ys)
+same-end p q true = rw (p, q)
+same-end p q false = refl
 
 pub other-length : (xs ys : List Nwk) → (length xs ≡ length ys → ⊥) → sameRelays xs ys ≡ false
 other-length [] [] n = absurd (n refl)
@@ -66,14 +84,3 @@ module _ (limit : ℕ) (x : RouteRecord) where
 
   pub way-long : (length (x .relays) ≡ 0 → ⊥) → limit ≤ length (x .relays) → wayBy limit (some x) ≡ noWay
   way-long n h = rw (ne-eqb (length (x .relays)) 0 n, le-ltb (length (x .relays)) limit h)
-
--- a list that was made of few relays names these
-module _ (l : RelayList) (relays : List Nwk) (e : l ≡ relayList relays) (h : length relays ≤ 32) where
-  pub made-relays : relaysOf l ≡ relays
-  made-relays = ap relaysOf e ∙ list-relays relays h
-
-  pub made-few : l .count ≤ 32
-  made-few = omega (arith, ap (λ (x : RelayList). x .count) e, list-count relays)
-
-pub fewer : (from : ℕ) (l : RelayList) → length (l .addresses) ≡ 32 → l .count ≤ 32 → length (drop from (relaysOf l)) ≤ 32
-fewer from l long few = omega (arith, length-drop from (relaysOf l), relays-count l long few)

@@ -1,7 +1,6 @@
-// Route records in a table by value and a lent relay store: one stored, one removed, and the way that one names.
+// Route records in the lent columns of a table and a lent relay store, changed in place: one stored, one removed, and the way that one names.
 use flat_map::Place;
 use record_table::RecordLookup;
-use record_table::RecordTable;
 use standard::RecordEntry;
 use standard::RecordRoute;
 use standard::RelayList;
@@ -9,15 +8,21 @@ use types::Nwk;
 use types::Refusal;
 ghost use mathlib.Core.Path.{_≡_};
 ghost use mathlib.Core.List.{map};
-ghost use Prim.Native.Nat.{_≤_};
+ghost use mathlib.Core.Option.{none};
+ghost use Prim.Native.Nat.{_≤_, _<_};
 ghost use lib.Dec.{leb};
-ghost use lib.ListN.{length, drop};
+ghost use lib.ListN.{length, take, drop};
+ghost use Rattle.flat_map.specs.Seek.{placeOf};
+ghost use Rattle.standard.specs.Ordered.{lookup};
 ghost use Rattle.standard.specs.Record.{recordKey};
-ghost use Rattle.standard.specs.Records.{sameRelays, otherRelays};
-ghost use Rattle.record_table.specs.Table.{WellFormed, rowsOf};
-ghost use Rattle.relay_store.specs.Store.{relaysOf, relayList};
-ghost use Rattle.relay_store.specs.Packed.{tableFor, storeFor, Together};
-ghost use Rattle.route_record.specs.Answer.{recordPut, relaysPut, recordOf, withAddress, withRelays, storedStep, storedStore, removedStep, removedStore, wayTo, recordHeld, recordFound};
+ghost use Rattle.standard.specs.Records.{sameRelays};
+ghost use Rattle.standard.specs.Route.{nwk};
+ghost use Rattle.standard.specs.Tells.{Tells};
+ghost use Rattle.columns.specs.Columns.{Under};
+ghost use Rattle.record_table.specs.Table.{inColumns, WellFormed, rowsOf};
+ghost use Rattle.relay_store.specs.Store.{relaysOf, PlaceWithin};
+ghost use Rattle.relay_store.specs.Packed.{recordsOf, Together};
+ghost use Rattle.route_record.specs.Answer.{recordPut, relaysPut, withAddress, withRelays, among, storedStep, removedStep, HoldsRecords, StoredIn, RemovedIn, otherAt, wayTo, recordHeld, recordFound};
 
 // What storing a route record answers: a refusal, or whether the source's record changed.
 pub enum RecordAnswer {
@@ -25,14 +30,16 @@ pub enum RecordAnswer {
     Stored(bool),
 }
 
-pub struct RecordStep {
+// What storing answers, and how many records there are after it.
+pub struct Recorded {
     pub answer: RecordAnswer,
-    pub table: RecordTable,
+    pub records: usize,
 }
 
+// Whether there was a record that is removed, and how many there are after it.
 pub struct RecordRemoved {
     pub removed: bool,
-    pub table: RecordTable,
+    pub records: usize,
 }
 
 // The way that a record names, and the relays of a source route.
@@ -47,116 +54,150 @@ pub struct RecordRow {
     pub relays: RelayList,
 }
 
-// The relays of a list from a place on.
-fn rest(l: RelayList, from: usize) -> RelayList
-    requires { ⌜ (l .count ≤ 32) × (from ≤ l .count) ⌝ }
-    ensures { λ r. ⌜ r ≡ relayList (drop from (relaysOf l)) ⌝ }
+// Whether the first `count` numbers of a row are the relays of a list.
+fn same_row(row: &[u16], count: usize, l: RelayList) -> bool
+    requires { ⌜ (count ≤ 32) × (length (now row) ≡ 32) × (l .count ≤ 32) ⌝ }
+    ensures { λ r. ⌜ r ≡ sameRelays (map nwk (take count (now (row .entry)))) (relaysOf l) ⌝ }
 {
-    let mut r = relay_store::no_relays();
-    let n = l.count - from;
-    let mut i: usize = 0;
-    while i < n {
-        let a = l.addresses[from + i];
-        r.addresses[i] = a;
-        i += 1;
-    }
-    r.count = n;
-    r
-}
-
-// Whether two lists name the same relays.
-fn same_relays(a: RelayList, b: RelayList) -> bool
-    requires { ⌜ (a .count ≤ 32) × (b .count ≤ 32) ⌝ }
-    ensures { λ r. ⌜ r ≡ sameRelays (relaysOf a) (relaysOf b) ⌝ }
-{
-    let n = a.count;
-    if n != b.count {
+    if count != l.count {
         return false;
     }
+    let mut same = true;
     let mut i: usize = 0;
-    while i < n {
-        let x = a.addresses[i];
-        let y = b.addresses[i];
-        if x.0 != y.0 {
-            return false;
-        }
+    while i < count {
+        let a = l.addresses[i];
+        same = same & (row[i] == a.0);
         i += 1;
     }
-    true
+    same
 }
 
-// A destination's record written, over the one that is there or in a free place: its row first, then its entry.
-fn put_record(t: RecordTable, store: &mut [u16], destination: Nwk, relays: RelayList) -> RecordTable
-    requires { ⌜ Together t (now store) × (relays .count ≤ 32) × (length (recordPut destination (relaysOf relays) t (now store)) ≤ 64) ⌝ }
-    ensures { λ r. ⌜ r ≡ tableFor (recordPut destination (relaysOf relays) t (now (store .entry))) ⌝ }
-    ensures { λ _. ⌜ now (store .exit) ≡ storeFor (recordPut destination (relaysOf relays) t (now (store .entry))) ⌝ }
+// Whether an address is one of the first `count` relays of a list.
+fn is_among(l: RelayList, count: usize, a: Nwk) -> bool
+    requires { ⌜ (count ≤ l .count) × (l .count ≤ 32) ⌝ }
+    ensures { λ r. ⌜ r ≡ among (a .0) (take count (relaysOf l)) ⌝ }
 {
-    let place = record_table::place_of(t, destination);
-    relay_store::put_row(store, place, relays);
-    record_table::put(
-        t,
+    let mut found = false;
+    let mut i: usize = 0;
+    while i < count {
+        let b = l.addresses[i];
+        found = found | (b.0 == a.0);
+        i += 1;
+    }
+    found
+}
+
+// Whether an address has no record, and would have none once each of the first `before` relays has one.
+fn is_new(
+    keys: &[u16],
+    lengths: &[u8],
+    count: usize,
+    relays: RelayList,
+    before: usize,
+    a: Nwk,
+) -> bool
+    requires { ⌜ WellFormed (inColumns (now keys) (now lengths) count) × (before ≤ relays .count) × (relays .count ≤ 32) ⌝ }
+    ensures { λ r. ⌜ Tells (lookup (λ n. n) (a .0) (withRelays (take before (relaysOf relays)) (map recordKey (rowsOf (inColumns (now (keys .entry)) (now (lengths .entry)) count)))) ≡ none) r ⌝ }
+{
+    let place = record_table::place_of(keys, lengths, count, a);
+    match place {
+        Place::Found(i) => false,
+        Place::Missing(i) => !is_among(relays, before, a),
+    }
+}
+
+// Whether the addresses of a route record have room. Nothing is written: where all of them might not fit, those with no record are counted.
+fn has_room(keys: &[u16], lengths: &[u8], count: usize, source: Nwk, relays: RelayList) -> bool
+    requires { ⌜ WellFormed (inColumns (now keys) (now lengths) count) × (relays .count ≤ 32) ⌝ }
+    ensures { λ r. ⌜ r ≡ leb (length (withAddress source (withRelays (relaysOf relays) (map recordKey (rowsOf (inColumns (now (keys .entry)) (now (lengths .entry)) count)))))) 64 ⌝ }
+{
+    let n = relays.count;
+    if count + n < 64 {
+        return true;
+    }
+    let mut total = count;
+    let mut i: usize = 0;
+    while i < n {
+        let a = relays.addresses[i];
+        let new = is_new(keys, lengths, count, relays, i, a);
+        total += new as usize;
+        i += 1;
+    }
+    let last = is_new(keys, lengths, count, relays, n, source);
+    total += last as usize;
+    total <= 64
+}
+
+// A record written at its place, over the one that is there or put in, with the relays of a list from a place on: its row first, then its
+// entry. How many records there are after it.
+pub fn put_record(
+    keys: &mut [u16],
+    lengths: &mut [u8],
+    count: usize,
+    store: &mut [u16],
+    place: Place,
+    destination: Nwk,
+    relays: RelayList,
+    from: usize,
+) -> usize
+    requires { ⌜ Together (inColumns (now keys) (now lengths) count) (now store) × (relays .count ≤ 32) × (from ≤ relays .count) × (place ≡ placeOf (take count (now keys)) (destination .0)) × (length (recordPut destination (drop from (relaysOf relays)) (inColumns (now keys) (now lengths) count) (now store)) ≤ 64) ⌝ }
+    ensures { λ r. ⌜
+        HoldsRecords (inColumns (now (keys .exit)) (now (lengths .exit)) r) (now (store .exit))
+        (recordPut destination (drop from (relaysOf relays)) (inColumns (now (keys .entry)) (now (lengths .entry)) count) (now (store .entry)))
+        ⌝ }
+{
+    relay_store::put_row(store, place, relays, from);
+    let n = relays.count - from;
+    record_table::put_at(
+        keys,
+        lengths,
+        count,
+        place,
         RecordEntry {
             destination,
-            relay_count: relays.count as u8,
+            relay_count: n as u8,
         },
     )
 }
 
-// Whether the addresses of a route record have room: they are put into a copy of the table, and the store is not touched.
-fn has_room(t: RecordTable, source: Nwk, relays: RelayList) -> bool
-    requires { ⌜ WellFormed t × (relays .count ≤ 32) ⌝ }
-    ensures { λ r. ⌜ r ≡ leb (length (withAddress source (withRelays (relaysOf relays) (map recordKey (rowsOf t))))) 64 ⌝ }
+// Each relay's record written, in their order: the relays after it. How many records there are after them.
+fn put_relays(
+    keys: &mut [u16],
+    lengths: &mut [u8],
+    count: usize,
+    store: &mut [u16],
+    relays: RelayList,
+) -> usize
+    requires { ⌜ Together (inColumns (now keys) (now lengths) count) (now store) × (relays .count ≤ 32) × (length (relaysPut (relaysOf relays) (inColumns (now keys) (now lengths) count) (now store)) ≤ 64) ⌝ }
+    ensures { λ r. ⌜
+        HoldsRecords (inColumns (now (keys .exit)) (now (lengths .exit)) r) (now (store .exit))
+        (relaysPut (relaysOf relays) (inColumns (now (keys .entry)) (now (lengths .entry)) count) (now (store .entry)))
+        ⌝ }
 {
     let n = relays.count;
-    let mut u = t;
+    let mut total = count;
     let mut i: usize = 0;
     while i < n {
         let a = relays.addresses[i];
-        if !record_table::has_room(u, a) {
-            return false;
-        }
-        u = record_table::put(
-            u,
-            RecordEntry {
-                destination: a,
-                relay_count: 0,
-            },
-        );
+        let place = record_table::place_of(keys, lengths, total, a);
+        total = put_record(keys, lengths, total, store, place, a, relays, i + 1);
         i += 1;
     }
-    record_table::has_room(u, source)
-}
-
-// Each relay's record written, in their order: the relays after it.
-fn put_relays(t: RecordTable, store: &mut [u16], relays: RelayList) -> RecordTable
-    requires { ⌜ Together t (now store) × (relays .count ≤ 32) × (length (relaysPut (relaysOf relays) t (now store)) ≤ 64) ⌝ }
-    ensures { λ r. ⌜ r ≡ tableFor (relaysPut (relaysOf relays) t (now (store .entry))) ⌝ }
-    ensures { λ _. ⌜ now (store .exit) ≡ storeFor (relaysPut (relaysOf relays) t (now (store .entry))) ⌝ }
-{
-    let n = relays.count;
-    let mut u = t;
-    let mut i: usize = 0;
-    while i < n {
-        let a = relays.addresses[i];
-        let way = rest(relays, i + 1);
-        u = put_record(u, store, a, way);
-        i += 1;
-    }
-    u
+    total
 }
 
 // The record at a place in the order with its relays, and nothing from the count on.
-pub fn record_at(t: RecordTable, store: &[u16], i: usize) -> RecordRow
-    requires { ⌜ Together t (now store) ⌝ }
-    ensures { λ r. ⌜ r ≡ recordHeld i t (now (store .entry)) ⌝ }
+pub fn record_at(keys: &[u16], lengths: &[u8], count: usize, store: &[u16], i: usize) -> RecordRow
+    requires { ⌜ Together (inColumns (now keys) (now lengths) count) (now store) ⌝ }
+    ensures { λ r. ⌜ r ≡ recordHeld i (inColumns (now (keys .entry)) (now (lengths .entry)) count) (now (store .entry)) ⌝ }
 {
-    if t.count <= i {
+    if count <= i {
         return RecordRow {
             entry: RecordLookup::Missing,
             relays: relay_store::no_relays(),
         };
     }
-    let e = t.entries[i];
+    let e = record_table::entry_at(keys, lengths, i);
     let relays = relay_store::relays_at(store, i, e.relay_count as usize);
     RecordRow {
         entry: RecordLookup::Found(e),
@@ -165,101 +206,134 @@ pub fn record_at(t: RecordTable, store: &[u16], i: usize) -> RecordRow
 }
 
 // The record of a destination with its relays.
-pub fn find_record(t: RecordTable, store: &[u16], destination: Nwk) -> RecordRow
-    requires { ⌜ Together t (now store) ⌝ }
-    ensures { λ r. ⌜ r ≡ recordFound destination t (now (store .entry)) ⌝ }
+pub fn find_record(
+    keys: &[u16],
+    lengths: &[u8],
+    count: usize,
+    store: &[u16],
+    destination: Nwk,
+) -> RecordRow
+    requires { ⌜ Together (inColumns (now keys) (now lengths) count) (now store) ⌝ }
+    ensures { λ r. ⌜ r ≡ recordFound destination (inColumns (now (keys .entry)) (now (lengths .entry)) count) (now (store .entry)) ⌝ }
 {
-    let place = record_table::place_of(t, destination);
+    let place = record_table::place_of(keys, lengths, count, destination);
     let Place::Found(i) = place else {
         return RecordRow {
             entry: RecordLookup::Missing,
             relays: relay_store::no_relays(),
         };
     };
-    record_at(t, store, i)
+    record_at(keys, lengths, count, store, i)
 }
 
-// Whether a destination has no record, or one that names other relays.
-fn differs(t: RecordTable, store: &[u16], destination: Nwk, relays: RelayList) -> bool
-    requires { ⌜ Together t (now store) × (relays .count ≤ 32) ⌝ }
-    ensures { λ r. ⌜ r ≡ otherRelays (relaysOf relays) (recordOf destination t (now (store .entry))) ⌝ }
+// Whether there is no record at the place of an address, or one that names other relays.
+fn differs(lengths: &[u8], store: &[u16], place: Place, relays: RelayList) -> bool
+    requires { ⌜ (length (now lengths) ≡ 64) × Under 33 (now lengths) × (length (now store) ≡ 2048) × PlaceWithin place × (relays .count ≤ 32) ⌝ }
+    ensures { λ r. ⌜ r ≡ otherAt place (now (lengths .entry)) (now (store .entry)) (relaysOf relays) ⌝ }
 {
-    let row = find_record(t, store, destination);
-    let entry = row.entry;
-    let RecordLookup::Found(_) = entry else {
-        return true;
-    };
-    let held = row.relays;
-    !same_relays(held, relays)
+    match place {
+        Place::Found(i) => {
+            let start = 32 * i;
+            !same_row(&store[start..start + 32], lengths[i] as usize, relays)
+        }
+        Place::Missing(i) => true,
+    }
 }
 
 // A route record of a source: each relay gets the relays after it, and then the source gets all of them.
-pub fn store_record(t: RecordTable, store: &mut [u16], source: Nwk, relays: RelayList) -> RecordStep
-    requires { ⌜ Together t (now store) × (relays .count ≤ 32) ⌝ }
-    ensures { λ r. ⌜ r ≡ storedStep source (relaysOf relays) t (now (store .entry)) ⌝ }
-    ensures { λ _. ⌜ now (store .exit) ≡ storedStore source (relaysOf relays) t (now (store .entry)) ⌝ }
+pub fn store_record(
+    keys: &mut [u16],
+    lengths: &mut [u8],
+    count: usize,
+    store: &mut [u16],
+    source: Nwk,
+    relays: RelayList,
+) -> Recorded
+    requires { ⌜ Together (inColumns (now keys) (now lengths) count) (now store) × (relays .count ≤ 32) ⌝ }
+    ensures { λ r. ⌜
+        StoredIn (inColumns (now (keys .entry)) (now (lengths .entry)) count) (now (store .entry))
+        (storedStep source (relaysOf relays) (recordsOf (inColumns (now (keys .entry)) (now (lengths .entry)) count) (now (store .entry))))
+        (r .answer)
+        (inColumns (now (keys .exit)) (now (lengths .exit)) (r .records)) (now (store .exit))
+        ⌝ }
 {
-    if !has_room(t, source, relays) {
-        return RecordStep {
+    if !has_room(keys, lengths, count, source, relays) {
+        return Recorded {
             answer: RecordAnswer::Refused(Refusal::RecordTableFull),
-            table: t,
+            records: count,
         };
     }
-    let u = put_relays(t, store, relays);
-    let changed = differs(u, store, source, relays);
-    let v = put_record(u, store, source, relays);
-    RecordStep {
+    let n = put_relays(keys, lengths, count, store, relays);
+    let place = record_table::place_of(keys, lengths, n, source);
+    let changed = differs(lengths, store, place, relays);
+    let records = put_record(keys, lengths, n, store, place, source, relays, 0);
+    Recorded {
         answer: RecordAnswer::Stored(changed),
-        table: v,
+        records,
     }
 }
 
 // The record of a destination removed, with the rows after its own shifted.
-pub fn remove_record(t: RecordTable, store: &mut [u16], destination: Nwk) -> RecordRemoved
-    requires { ⌜ Together t (now store) ⌝ }
-    ensures { λ r. ⌜ r ≡ removedStep destination t (now (store .entry)) ⌝ }
-    ensures { λ _. ⌜ now (store .exit) ≡ removedStore destination t (now (store .entry)) ⌝ }
+pub fn remove_record(
+    keys: &mut [u16],
+    lengths: &mut [u8],
+    count: usize,
+    store: &mut [u16],
+    destination: Nwk,
+) -> RecordRemoved
+    requires { ⌜ Together (inColumns (now keys) (now lengths) count) (now store) ⌝ }
+    ensures { λ r. ⌜
+        RemovedIn (inColumns (now (keys .entry)) (now (lengths .entry)) count) (now (store .entry))
+        (removedStep destination (recordsOf (inColumns (now (keys .entry)) (now (lengths .entry)) count) (now (store .entry))))
+        (r .removed)
+        (inColumns (now (keys .exit)) (now (lengths .exit)) (r .records)) (now (store .exit))
+        ⌝ }
 {
-    let place = record_table::place_of(t, destination);
+    let place = record_table::place_of(keys, lengths, count, destination);
     let Place::Found(i) = place else {
         return RecordRemoved {
             removed: false,
-            table: t,
+            records: count,
         };
     };
     relay_store::shift_rows_down(store, i);
-    let u = record_table::remove(t, destination);
+    let records = record_table::remove_at(keys, lengths, count, i, destination);
     RecordRemoved {
         removed: true,
-        table: u,
+        records,
     }
 }
 
 // The way that a destination's record names: none, direct, or by fewer relays than the limit.
-pub fn way_to(t: RecordTable, store: &[u16], destination: Nwk, limit: u8) -> RecordWay
-    requires { ⌜ Together t (now store) ⌝ }
-    ensures { λ r. ⌜ r ≡ wayTo destination limit t (now (store .entry)) ⌝ }
+pub fn way_to(
+    keys: &[u16],
+    lengths: &[u8],
+    count: usize,
+    store: &[u16],
+    destination: Nwk,
+    limit: u8,
+) -> RecordWay
+    requires { ⌜ Together (inColumns (now keys) (now lengths) count) (now store) ⌝ }
+    ensures { λ r. ⌜ r ≡ wayTo destination limit (inColumns (now (keys .entry)) (now (lengths .entry)) count) (now (store .entry)) ⌝ }
 {
-    let row = find_record(t, store, destination);
-    let entry = row.entry;
-    let relays = row.relays;
-    let RecordLookup::Found(_) = entry else {
+    let place = record_table::place_of(keys, lengths, count, destination);
+    let Place::Found(i) = place else {
         return RecordWay {
             route: RecordRoute::None,
-            relays,
+            relays: relay_store::no_relays(),
         };
     };
-    let n = relays.count;
+    let n = lengths[i];
     if n == 0 {
         return RecordWay {
             route: RecordRoute::Direct,
-            relays,
+            relays: relay_store::no_relays(),
         };
     }
-    if n < limit as usize {
+    if n < limit {
         return RecordWay {
             route: RecordRoute::SourceRoute,
-            relays,
+            relays: relay_store::relays_at(store, i, n as usize),
         };
     }
     RecordWay {

@@ -1,6 +1,5 @@
-// A route request against the tables of route search: one function for each arm of the rule.
+// A route request against the tables of route search in columns that are lent: it is refused before anything is written, or else changes them in place.
 use discovery_table::DiscoveryLookup;
-use search_tables::SearchTables;
 use standard::DiscoveryEntry;
 use standard::ManyToOne;
 use standard::Update;
@@ -10,9 +9,11 @@ use types::Sum;
 ghost use mathlib.Core.Option.{none, some};
 ghost use mathlib.Core.Path.{_≡_};
 ghost use Rattle.types.specs.Clock.{timeSum};
+ghost use Rattle.standard.specs.Expiry.{expired};
 ghost use Rattle.standard.specs.Request.{accepting, requestTo};
-ghost use Rattle.search_tables.specs.Packed.{WellFormed, tablesOf, InKey};
-ghost use Rattle.route_request.specs.Answer.{refused, answered, byTime, requestedOn, requested};
+ghost use Rattle.search_tables.specs.Packed.{inColumns, WellFormed, tablesOf, InKey};
+ghost use Rattle.route_request.specs.declared.RequestAnswer.the-variants.{Refused};
+ghost use Rattle.route_request.specs.Answer.{answered, byTime, requested, Leaves, Room};
 
 // What a request is answered: a refusal, or whether it is accepted and what is reported.
 pub enum RequestAnswer {
@@ -20,81 +21,151 @@ pub enum RequestAnswer {
     Answered(bool, Update),
 }
 
-pub struct RequestStep {
+// The answer, and how many routes and discoveries there are after it.
+pub struct RequestResult {
     pub answer: RequestAnswer,
-    pub tables: SearchTables,
+    pub routes: usize,
+    pub discoveries: usize,
 }
 
-// The tables as they came, and why.
-fn refuse(old: SearchTables, why: Refusal) -> RequestStep
-    ensures { λ r. ⌜ r ≡ refused old why ⌝ }
+// Nothing is written, and why.
+fn refuse(routes: usize, discoveries: usize, why: Refusal) -> RequestResult
+    ensures { λ r. ⌜ r ≡ record { answer = Refused why; routes = routes; discoveries = discoveries } ⌝ }
 {
-    RequestStep {
+    RequestResult {
         answer: RequestAnswer::Refused(why),
-        tables: old,
+        routes,
+        discoveries,
     }
 }
 
-// The discovery is stored, then the originator's route considers the sender. `old` is what a refusal hands back.
-fn accept(
-    old: SearchTables,
-    t: SearchTables,
+// The discovery is stored, then the originator's route considers the sender: on tables whose expiry is done and that have room.
+fn store(
+    route_keys: &mut [u16],
+    route_words: &mut [u64],
+    route_usage: &mut [u32],
+    routes: usize,
+    discovery_keys: &mut [u32],
+    discovery_words: &mut [u64],
+    discovery_ends: &mut [u64],
+    discoveries: usize,
     d: DiscoveryEntry,
     originator: Nwk,
     id: u8,
     sender: Nwk,
     cost: u8,
     many_to_one: ManyToOne,
-) -> RequestStep
-    requires { ⌜ WellFormed t × InKey d originator id ⌝ }
-    ensures { λ r. ⌜ r ≡ answered old (accepting originator sender cost «many_to_one» d (tablesOf t)) ⌝ }
+) -> RequestResult
+    requires { ⌜ WellFormed (inColumns (now «route_keys») (now «route_words») (now «route_usage») routes (now «discovery_keys») (now «discovery_words») (now «discovery_ends») discoveries) × InKey d originator id × Room originator id (tablesOf (inColumns (now «route_keys») (now «route_words») (now «route_usage») routes (now «discovery_keys») (now «discovery_words») (now «discovery_ends») discoveries)) ⌝ }
+    ensures { λ r. ⌜
+        (let t = tablesOf (inColumns (now («route_keys» .entry)) (now («route_words» .entry)) (now («route_usage» .entry)) routes (now («discovery_keys» .entry)) (now («discovery_words» .entry)) (now («discovery_ends» .entry)) discoveries) in
+        Leaves (inColumns (now («route_keys» .exit)) (now («route_words» .exit)) (now («route_usage» .exit)) (r .routes) (now («discovery_keys» .exit)) (now («discovery_words» .exit)) (now («discovery_ends» .exit)) (r .discoveries)) (r .answer) (answered t (accepting originator sender cost «many_to_one» d t)))
+        ⌝ }
 {
-    let old_routes = t.routes;
-    let old_discoveries = t.discoveries;
-    if !route_table::has_room(old_routes, originator) {
-        return refuse(old, Refusal::RouteTableFull);
-    }
-    if !discovery_table::has_room(old_discoveries, originator, id) {
-        return refuse(old, Refusal::DiscoveryTableFull);
-    }
-    let e = search_tables::route_or(old_routes, originator);
+    let place = route_table::place_of(route_keys, route_words, route_usage, routes, originator);
+    let e = search_tables::route_or(
+        route_keys,
+        route_words,
+        route_usage,
+        routes,
+        place,
+        originator,
+    );
     let f = route_entry::flagged(route_entry::considered(e, sender, cost), many_to_one);
-    let routes = route_table::put(old_routes, f);
-    let discoveries = discovery_table::put(old_discoveries, d);
-    RequestStep {
+    let n = route_table::put_at(route_keys, route_words, route_usage, routes, place, f);
+    let pair = discovery_table::place_of(
+        discovery_keys,
+        discovery_words,
+        discovery_ends,
+        discoveries,
+        originator,
+        id,
+    );
+    let m = discovery_table::put_at(
+        discovery_keys,
+        discovery_words,
+        discovery_ends,
+        discoveries,
+        pair,
+        d,
+    );
+    RequestResult {
         answer: RequestAnswer::Answered(true, route_entry::considering(e, sender, cost)),
-        tables: SearchTables {
-            routes,
-            discoveries,
-        },
+        routes: n,
+        discoveries: m,
     }
 }
 
-// A pair that is known: a dearer request is not accepted, and nothing else happens.
-fn request_known(
-    old: SearchTables,
-    t: SearchTables,
+// A request that is as good as what is known, or new: refused where there is no room once expiry is made, else accepted.
+fn accept(
+    route_keys: &mut [u16],
+    route_words: &mut [u64],
+    route_usage: &mut [u32],
+    routes: usize,
+    discovery_keys: &mut [u32],
+    discovery_words: &mut [u64],
+    discovery_ends: &mut [u64],
+    discoveries: usize,
     d: DiscoveryEntry,
     originator: Nwk,
     id: u8,
-    destination: Nwk,
     sender: Nwk,
     cost: u8,
     many_to_one: ManyToOne,
-) -> RequestStep
-    requires { ⌜ WellFormed t × InKey d originator id ⌝ }
-    ensures { λ r. ⌜ r ≡ answered old (requestTo originator id destination sender cost «many_to_one» 0 (tablesOf t) (some d)) ⌝ }
+    now_ms: u64,
+) -> RequestResult
+    requires { ⌜ WellFormed (inColumns (now «route_keys») (now «route_words») (now «route_usage») routes (now «discovery_keys») (now «discovery_words») (now «discovery_ends») discoveries) × InKey d originator id ⌝ }
+    ensures { λ r. ⌜
+        (let t = tablesOf (inColumns (now («route_keys» .entry)) (now («route_words» .entry)) (now («route_usage» .entry)) routes (now («discovery_keys» .entry)) (now («discovery_words» .entry)) (now («discovery_ends» .entry)) discoveries) in
+        Leaves (inColumns (now («route_keys» .exit)) (now («route_words» .exit)) (now («route_usage» .exit)) (r .routes) (now («discovery_keys» .exit)) (now («discovery_words» .exit)) (now («discovery_ends» .exit)) (r .discoveries)) (r .answer) (answered t (accepting originator sender cost «many_to_one» d (expired «now_ms» t))))
+        ⌝ }
 {
-    if d.forward_cost < cost {
-        return RequestStep {
-            answer: RequestAnswer::Answered(false, Update::Same),
-            tables: t,
-        };
+    if !expiry::route_room(
+        route_keys,
+        route_words,
+        route_usage,
+        routes,
+        discovery_keys,
+        discovery_words,
+        discovery_ends,
+        discoveries,
+        originator,
+        now_ms,
+    ) {
+        return refuse(routes, discoveries, Refusal::RouteTableFull);
     }
-    accept(
-        old,
-        t,
-        discovery_entry::reached(d, sender, cost),
+    if !expiry::discovery_room(
+        discovery_keys,
+        discovery_words,
+        discovery_ends,
+        discoveries,
+        originator,
+        id,
+        now_ms,
+    ) {
+        return refuse(routes, discoveries, Refusal::DiscoveryTableFull);
+    }
+    let left = expiry::expire(
+        route_keys,
+        route_words,
+        route_usage,
+        routes,
+        discovery_keys,
+        discovery_words,
+        discovery_ends,
+        discoveries,
+        now_ms,
+    );
+    store(
+        route_keys,
+        route_words,
+        route_usage,
+        left.routes,
+        discovery_keys,
+        discovery_words,
+        discovery_ends,
+        left.discoveries,
+        d,
         originator,
         id,
         sender,
@@ -103,23 +174,95 @@ fn request_known(
     )
 }
 
-// A pair that is new: its discovery expires `span` after `now`.
-fn request_new(
-    old: SearchTables,
-    t: SearchTables,
+// A pair that is known: a dearer request is not accepted, and nothing but the expiry happens.
+fn request_known(
+    route_keys: &mut [u16],
+    route_words: &mut [u64],
+    route_usage: &mut [u32],
+    routes: usize,
+    discovery_keys: &mut [u32],
+    discovery_words: &mut [u64],
+    discovery_ends: &mut [u64],
+    discoveries: usize,
+    d: DiscoveryEntry,
     originator: Nwk,
     id: u8,
     destination: Nwk,
     sender: Nwk,
     cost: u8,
     many_to_one: ManyToOne,
-    now: u64,
-    span: u64,
-) -> RequestStep
-    requires { ⌜ WellFormed t ⌝ }
-    ensures { λ r. ⌜ r ≡ byTime old (timeSum now span) (λ expires. requestTo originator id destination sender cost «many_to_one» expires (tablesOf t) none) ⌝ }
+    now_ms: u64,
+) -> RequestResult
+    requires { ⌜ WellFormed (inColumns (now «route_keys») (now «route_words») (now «route_usage») routes (now «discovery_keys») (now «discovery_words») (now «discovery_ends») discoveries) × InKey d originator id ⌝ }
+    ensures { λ r. ⌜
+        (let t = tablesOf (inColumns (now («route_keys» .entry)) (now («route_words» .entry)) (now («route_usage» .entry)) routes (now («discovery_keys» .entry)) (now («discovery_words» .entry)) (now («discovery_ends» .entry)) discoveries) in
+        Leaves (inColumns (now («route_keys» .exit)) (now («route_words» .exit)) (now («route_usage» .exit)) (r .routes) (now («discovery_keys» .exit)) (now («discovery_words» .exit)) (now («discovery_ends» .exit)) (r .discoveries)) (r .answer) (answered t (requestTo originator id destination sender cost «many_to_one» 0 (expired «now_ms» t) (some d))))
+        ⌝ }
 {
-    let sum = types::time_sum(now, span);
+    if d.forward_cost < cost {
+        let left = expiry::expire(
+            route_keys,
+            route_words,
+            route_usage,
+            routes,
+            discovery_keys,
+            discovery_words,
+            discovery_ends,
+            discoveries,
+            now_ms,
+        );
+        return RequestResult {
+            answer: RequestAnswer::Answered(false, Update::Same),
+            routes: left.routes,
+            discoveries: left.discoveries,
+        };
+    }
+    let better = discovery_entry::reached(d, sender, cost);
+    accept(
+        route_keys,
+        route_words,
+        route_usage,
+        routes,
+        discovery_keys,
+        discovery_words,
+        discovery_ends,
+        discoveries,
+        better,
+        originator,
+        id,
+        sender,
+        cost,
+        many_to_one,
+        now_ms,
+    )
+}
+
+// A pair that is new: its discovery expires `span` after `now_ms`.
+fn request_new(
+    route_keys: &mut [u16],
+    route_words: &mut [u64],
+    route_usage: &mut [u32],
+    routes: usize,
+    discovery_keys: &mut [u32],
+    discovery_words: &mut [u64],
+    discovery_ends: &mut [u64],
+    discoveries: usize,
+    originator: Nwk,
+    id: u8,
+    destination: Nwk,
+    sender: Nwk,
+    cost: u8,
+    many_to_one: ManyToOne,
+    now_ms: u64,
+    span: u64,
+) -> RequestResult
+    requires { ⌜ WellFormed (inColumns (now «route_keys») (now «route_words») (now «route_usage») routes (now «discovery_keys») (now «discovery_words») (now «discovery_ends») discoveries) ⌝ }
+    ensures { λ r. ⌜
+        (let t = tablesOf (inColumns (now («route_keys» .entry)) (now («route_words» .entry)) (now («route_usage» .entry)) routes (now («discovery_keys» .entry)) (now («discovery_words» .entry)) (now («discovery_ends» .entry)) discoveries) in
+        Leaves (inColumns (now («route_keys» .exit)) (now («route_words» .exit)) (now («route_usage» .exit)) (r .routes) (now («discovery_keys» .exit)) (now («discovery_words» .exit)) (now («discovery_ends» .exit)) (r .discoveries)) (r .answer) (byTime t (timeSum «now_ms» span) (λ expires. requestTo originator id destination sender cost «many_to_one» expires (expired «now_ms» t) none)))
+        ⌝ }
+{
+    let sum = types::time_sum(now_ms, span);
     match sum {
         Sum::At(expires) => {
             let d = discovery_entry::new_discovery(
@@ -130,83 +273,102 @@ fn request_new(
                 expires,
                 destination,
             );
-            accept(old, t, d, originator, id, sender, cost, many_to_one)
+            accept(
+                route_keys,
+                route_words,
+                route_usage,
+                routes,
+                discovery_keys,
+                discovery_words,
+                discovery_ends,
+                discoveries,
+                d,
+                originator,
+                id,
+                sender,
+                cost,
+                many_to_one,
+                now_ms,
+            )
         }
-        Sum::Past => refuse(old, Refusal::TimePastEnd),
-    }
-}
-
-// A request, on tables whose expiry is done.
-fn request_on(
-    old: SearchTables,
-    t: SearchTables,
-    originator: Nwk,
-    id: u8,
-    destination: Nwk,
-    sender: Nwk,
-    cost: u8,
-    many_to_one: ManyToOne,
-    now: u64,
-    span: u64,
-) -> RequestStep
-    requires { ⌜ WellFormed t ⌝ }
-    ensures { λ r. ⌜ r ≡ requestedOn old originator id destination sender cost «many_to_one» now span (tablesOf t) ⌝ }
-{
-    let discoveries = t.discoveries;
-    let found = discovery_table::find(discoveries, originator, id);
-    match found {
-        DiscoveryLookup::Found(d) => request_known(
-            old,
-            t,
-            d,
-            originator,
-            id,
-            destination,
-            sender,
-            cost,
-            many_to_one,
-        ),
-        DiscoveryLookup::Missing => request_new(
-            old,
-            t,
-            originator,
-            id,
-            destination,
-            sender,
-            cost,
-            many_to_one,
-            now,
-            span,
-        ),
+        Sum::Past => refuse(routes, discoveries, Refusal::TimePastEnd),
     }
 }
 
 // A request of the search (originator, id) for a destination, heard from a sender at a cost.
 pub fn request(
-    t: SearchTables,
+    route_keys: &mut [u16],
+    route_words: &mut [u64],
+    route_usage: &mut [u32],
+    routes: usize,
+    discovery_keys: &mut [u32],
+    discovery_words: &mut [u64],
+    discovery_ends: &mut [u64],
+    discoveries: usize,
     originator: Nwk,
     id: u8,
     destination: Nwk,
     sender: Nwk,
     cost: u8,
     many_to_one: ManyToOne,
-    now: u64,
+    now_ms: u64,
     span: u64,
-) -> RequestStep
-    requires { ⌜ WellFormed t ⌝ }
-    ensures { λ r. ⌜ r ≡ requested t originator id destination sender cost «many_to_one» now span ⌝ }
+) -> RequestResult
+    requires { ⌜ WellFormed (inColumns (now «route_keys») (now «route_words») (now «route_usage») routes (now «discovery_keys») (now «discovery_words») (now «discovery_ends») discoveries) ⌝ }
+    ensures { λ r. ⌜
+        (let t = tablesOf (inColumns (now («route_keys» .entry)) (now («route_words» .entry)) (now («route_usage» .entry)) routes (now («discovery_keys» .entry)) (now («discovery_words» .entry)) (now («discovery_ends» .entry)) discoveries) in
+        Leaves (inColumns (now («route_keys» .exit)) (now («route_words» .exit)) (now («route_usage» .exit)) (r .routes) (now («discovery_keys» .exit)) (now («discovery_words» .exit)) (now («discovery_ends» .exit)) (r .discoveries)) (r .answer) (requested t originator id destination sender cost «many_to_one» «now_ms» span))
+        ⌝ }
 {
-    let left = expiry::expire(t, now);
-    request_on(
-        t,
-        left,
+    let found = expiry::find_live(
+        discovery_keys,
+        discovery_words,
+        discovery_ends,
+        discoveries,
         originator,
         id,
-        destination,
-        sender,
-        cost,
-        many_to_one,
-        now,
-        span,
-    )
+        now_ms,
+    );
+    match found {
+        DiscoveryLookup::Found(d) => {
+            request_known(
+                route_keys,
+                route_words,
+                route_usage,
+                routes,
+                discovery_keys,
+                discovery_words,
+                discovery_ends,
+                discoveries,
+                d,
+                originator,
+                id,
+                destination,
+                sender,
+                cost,
+                many_to_one,
+                now_ms,
+            )
+        }
+        DiscoveryLookup::Missing => {
+            request_new(
+                route_keys,
+                route_words,
+                route_usage,
+                routes,
+                discovery_keys,
+                discovery_words,
+                discovery_ends,
+                discoveries,
+                originator,
+                id,
+                destination,
+                sender,
+                cost,
+                many_to_one,
+                now_ms,
+                span,
+            )
+        }
+    }
 }

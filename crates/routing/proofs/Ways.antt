@@ -20,7 +20,7 @@ use Rattle.routing.specs.declared.RecordAtAnswer.the-variants as record-
 use Rattle.routing.specs.declared.RecordAtOutcome.{RecordAtOutcome}
 use Rattle.routing.specs.Records.{wayIn, routeTo, rowIn}
 use Rattle.routing.specs.Records as exported
-use Rattle.routing.specs.State.{wellFormed}
+use Rattle.routing.specs.State.{wellFormed, recordTable}
 use Rattle.standard.proofs.Picked.{by-test}
 
 -- the answers that name relays
@@ -52,7 +52,7 @@ pub route-to-blank : (s : Routing) (d : Nwk) (limit : ℕ) (store : List ℕ) �
 unfolding routeTo wayTo
 route-to-blank s d limit store =
     by-test BlankWay (wellFormed s) _ _
-    (λ _. by-test BlankWay (agrees (s .«route_record_table») store) _ _ (λ _. way-blank s d limit (recordOf d (s .«route_record_table») store)) (λ _. refl))
+    (λ _. by-test BlankWay (agrees (recordTable s) store) _ _ (λ _. way-blank s d limit (recordOf d (recordTable s) store)) (λ _. refl))
     (λ _. refl)
 
 row-blank : (x : Option RouteRecord) → BlankAt (rowIn (rowFor x))
@@ -64,5 +64,5 @@ pub record-at-blank : (s : Routing) (place : ℕ) (store : List ℕ) → BlankAt
 unfolding exported.recordAt recordHeld
 record-at-blank s place store =
     by-test BlankAt (wellFormed s) _ _
-    (λ _. by-test BlankAt (agrees (s .«route_record_table») store) _ _ (λ _. row-blank (entryAt place (recordsOf (s .«route_record_table») store))) (λ _. refl))
+    (λ _. by-test BlankAt (agrees (recordTable s) store) _ _ (λ _. row-blank (entryAt place (recordsOf (recordTable s) store))) (λ _. refl))
     (λ _. refl)

@@ -3,14 +3,16 @@
 -- Assumes nothing.
 use Prim.Native.Nat.{ℕ, _+_, min}
 use mathlib.Core.Bool.{Bool, cond}
+use mathlib.Core.List.{List}
 use lib.Dec.{leb}
 use lib.ListN.{length}
 use Rattle.types.specs.declared.Nwk.{Nwk}
 use Rattle.types.specs.declared.Refusal.the-variants.{StateIllFormed, UnknownNextHop}
+use Rattle.standard.specs.declared.DiscoveryEntry.{DiscoveryEntry}
 use Rattle.standard.specs.Calls.{statusAt, hopAt, firstFault}
 use Rattle.standard.specs.Discovery.{awaits}
 use Rattle.standard.specs.Query.{first, entryAt}
-use Rattle.route_table.specs.Table.{rowsOf, looked}
+use Rattle.route_table.specs.Table.{looked}
 use Rattle.discovery_table.specs.Table as discoveries
 use Rattle.discovery_table.specs.Table.{deadlineOf}
 use Rattle.route_calls.specs.declared.HopAnswer.{HopAnswer}
@@ -35,65 +37,58 @@ use Rattle.routing.specs.declared.CheckOutcome.{CheckOutcome}
 use Rattle.routing.specs.declared.CheckOutcome.the-variants as CheckOutcome
 use Rattle.routing.specs.declared.HopOutcome.{HopOutcome}
 use Rattle.routing.specs.declared.HopOutcome.the-variants as hop-outcome
-use Rattle.routing.specs.Routes.{refusedDone, refusedTold}
-use Rattle.routing.specs.State.{wellFormed}
+use Rattle.routing.specs.Routes.{routesIn, refusedDone, refusedTold}
+use Rattle.routing.specs.State.{wellFormed, discoveryTable, withTriggers}
 
--- the state with its two trigger counters replaced
-abbrev pub withTriggers : Routing → ℕ → ℕ → Routing
-withTriggers s errors failures = record {
-  «mtorr_route_errors» = errors;
-  «mtorr_delivery_failures» = failures;
-  «route_table» = s .«route_table»;
-  «discovery_table» = s .«discovery_table»;
-  «route_record_table» = s .«route_record_table»;
-  «request_sequence_number» = s .«request_sequence_number»;
-}
+-- the discoveries of a state
+abbrev pub discoveriesIn : Routing → List DiscoveryEntry
+discoveriesIn s = discoveries.rowsOf (discoveryTable s)
 
 -- How the route to a destination stands.
 abbrev pub routeStatusCore : Routing → Nwk → StatusOutcome
-routeStatusCore s destination = StatusOutcome.Answered (statusAnswer (statusAt (destination .0) (rowsOf (s .«route_table»))))
+routeStatusCore s destination = StatusOutcome.Answered (statusAnswer (statusAt (destination .0) (routesIn s)))
 
 unfoldable pub routeStatus : Routing → Nwk → StatusOutcome
 routeStatus s destination = cond (wellFormed s) (routeStatusCore s destination) (StatusOutcome.Refused StateIllFormed)
 
 -- When the first live discovery of the way to a destination is over.
 abbrev pub discoveryDeadlineCore : Routing → Nwk → ℕ → DeadlineOutcome
-discoveryDeadlineCore s destination now = DeadlineOutcome.Answered (deadlineOf (first (awaits (destination .0) now) (discoveries.rowsOf (s .«discovery_table»))))
+discoveryDeadlineCore s destination now = DeadlineOutcome.Answered (deadlineOf (first (awaits (destination .0) now) (discoveriesIn s)))
 
 unfoldable pub discoveryDeadline : Routing → Nwk → ℕ → DeadlineOutcome
 discoveryDeadline s destination now = cond (wellFormed s) (discoveryDeadlineCore s destination now) (DeadlineOutcome.Refused StateIllFormed)
 
 -- How many routes there are.
 abbrev pub routeCountCore : Routing → CountOutcome
-routeCountCore s = CountOutcome.Answered (length (rowsOf (s .«route_table»)))
+routeCountCore s = CountOutcome.Answered (length (routesIn s))
 
 unfoldable pub routeCount : Routing → CountOutcome
 routeCount s = cond (wellFormed s) (routeCountCore s) (CountOutcome.Refused StateIllFormed)
 
 -- How many discoveries there are.
 abbrev pub discoveryCountCore : Routing → CountOutcome
-discoveryCountCore s = CountOutcome.Answered (length (discoveries.rowsOf (s .«discovery_table»)))
+discoveryCountCore s = CountOutcome.Answered (length (discoveriesIn s))
 
 unfoldable pub discoveryCount : Routing → CountOutcome
 discoveryCount s = cond (wellFormed s) (discoveryCountCore s) (CountOutcome.Refused StateIllFormed)
 
 -- The route at a place in ascending order, and nothing from the count on.
 abbrev pub routeAtCore : Routing → ℕ → RouteAtOutcome
-routeAtCore s place = RouteAtOutcome.Answered (looked (entryAt place (rowsOf (s .«route_table»))))
+routeAtCore s place = RouteAtOutcome.Answered (looked (entryAt place (routesIn s)))
 
 unfoldable pub routeAt : Routing → ℕ → RouteAtOutcome
 routeAt s place = cond (wellFormed s) (routeAtCore s place) (RouteAtOutcome.Refused StateIllFormed)
 
 -- The discovery at a place in ascending order, and nothing from the count on.
 abbrev pub discoveryAtCore : Routing → ℕ → DiscoveryAtOutcome
-discoveryAtCore s place = DiscoveryAtOutcome.Answered (discoveries.looked (entryAt place (discoveries.rowsOf (s .«discovery_table»))))
+discoveryAtCore s place = DiscoveryAtOutcome.Answered (discoveries.looked (entryAt place (discoveriesIn s)))
 
 unfoldable pub discoveryAt : Routing → ℕ → DiscoveryAtOutcome
 discoveryAt s place = cond (wellFormed s) (discoveryAtCore s place) (DiscoveryAtOutcome.Refused StateIllFormed)
 
 -- The table check: sound, or the first fault in ascending order of destination.
 abbrev pub checkTablesCore : Routing → CheckOutcome
-checkTablesCore s = CheckOutcome.Answered (checkedBy (firstFault (discoveries.rowsOf (s .«discovery_table»)) (rowsOf (s .«route_table»))))
+checkTablesCore s = CheckOutcome.Answered (checkedBy (firstFault (discoveriesIn s) (routesIn s)))
 
 unfoldable pub checkTables : Routing → CheckOutcome
 checkTables s = cond (wellFormed s) (checkTablesCore s) (CheckOutcome.Refused StateIllFormed)
@@ -106,7 +101,7 @@ hopOutcome hop.Unknown = hop-outcome.Refused UnknownNextHop
 
 -- The next hop to a destination by its Active route.
 abbrev pub nextHopCore : Routing → Nwk → HopOutcome
-nextHopCore s destination = hopOutcome (hopAnswer (hopAt (destination .0) (rowsOf (s .«route_table»))))
+nextHopCore s destination = hopOutcome (hopAnswer (hopAt (destination .0) (routesIn s)))
 
 unfoldable pub nextHop : Routing → Nwk → HopOutcome
 nextHop s destination = cond (wellFormed s) (nextHopCore s destination) (hop-outcome.Refused StateIllFormed)

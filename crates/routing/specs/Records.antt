@@ -13,21 +13,21 @@ use Rattle.standard.specs.declared.RecordRoute.{RecordRoute}
 use Rattle.standard.specs.declared.RecordRoute.the-variants as record-route
 use Rattle.standard.specs.declared.RelayList.{RelayList}
 use Rattle.standard.specs.Calls.{hopAt}
-use Rattle.route_table.specs.Table.{rowsOf}
-use Rattle.record_table.specs.declared.RecordTable.{RecordTable}
+use Rattle.standard.specs.Ordered.{lookup, remove}
+use Rattle.standard.specs.Query.{isThere}
+use Rattle.standard.specs.Records.{RouteRecord, addressKey}
 use Rattle.record_table.specs.declared.RecordLookup.{RecordLookup}
 use Rattle.record_table.specs.declared.RecordLookup.the-variants as record-lookup
 use Rattle.record_table.specs.Table as records
 use Rattle.relay_store.specs.Store.{relaysOf, relayList, agrees}
+use Rattle.relay_store.specs.Packed.{recordsOf, tableFor, storeFor}
 use Rattle.route_calls.specs.declared.HopAnswer.{HopAnswer}
 use Rattle.route_calls.specs.declared.HopAnswer.the-variants as hop
 use Rattle.route_calls.specs.Answer.{hopAnswer}
 use Rattle.route_record.specs.declared.RecordAnswer.the-variants as record-answer
-use Rattle.route_record.specs.declared.RecordStep.{RecordStep}
-use Rattle.route_record.specs.declared.RecordRemoved.{RecordRemoved}
 use Rattle.route_record.specs.declared.RecordWay.{RecordWay}
 use Rattle.route_record.specs.declared.RecordRow.{RecordRow}
-use Rattle.route_record.specs.Answer.{storedStep, storedStore, removedStep, removedStore, wayTo, recordHeld}
+use Rattle.route_record.specs.Answer.{RecordStep, storedStep, wayTo, recordHeld}
 use Rattle.routing.specs.declared.Routing.{Routing}
 use Rattle.routing.specs.declared.CountOutcome.{CountOutcome}
 use Rattle.routing.specs.declared.CountOutcome.the-variants as CountOutcome
@@ -40,25 +40,18 @@ use Rattle.routing.specs.declared.RouteToAnswer.the-variants as way
 use Rattle.routing.specs.declared.RouteToOutcome.{RouteToOutcome}
 use Rattle.routing.specs.declared.ToldAnswer.the-variants as told
 use Rattle.routing.specs.declared.ToldOutcome.{ToldOutcome}
-use Rattle.routing.specs.Routes.{refusedTold}
-use Rattle.routing.specs.State.{wellFormed}
+use Rattle.routing.specs.Routes.{routesIn, refusedTold}
+use Rattle.routing.specs.State.{wellFormed, routeTable, discoveryTable, recordTable, withTables}
 
--- the state with its record table replaced
-abbrev pub withRecords : Routing → RecordTable → Routing
-withRecords s t = record {
-  «mtorr_route_errors» = s .«mtorr_route_errors»;
-  «mtorr_delivery_failures» = s .«mtorr_delivery_failures»;
-  «route_table» = s .«route_table»;
-  «discovery_table» = s .«discovery_table»;
-  «route_record_table» = t;
-  «request_sequence_number» = s .«request_sequence_number»;
-}
+-- the records of a state and a store, and the state with records in their place
+abbrev pub recordsIn : Routing → List ℕ → List RouteRecord
+recordsIn s store = recordsOf (recordTable s) store
+
+abbrev pub withRecords : Routing → List RouteRecord → Routing
+withRecords s xs = withTables s (routeTable s) (discoveryTable s) (tableFor xs)
 
 abbrev pub recordedIn : Routing → RecordStep → RecordOutcome
-recordedIn s x = record { answer = x .answer; state = withRecords s (x .table) }
-
-abbrev pub unrecordedIn : Routing → RecordRemoved → ToldOutcome
-unrecordedIn s x = record { answer = told.Told (x .removed); state = withRecords s (x .table) }
+recordedIn s x = record { answer = x .answer; state = withRecords s (x .records) }
 
 -- "All hand back the given state .. and store unchanged and no other answer."
 abbrev pub refusedRecord : Routing → Refusal → RecordOutcome
@@ -69,15 +62,15 @@ refusedWay n = record { answer = way.Refused n; relays = relayList [] }
 
 -- A route record of a source: the answer and the state, and the store after it.
 abbrev pub storeRouteRecordCore : Routing → Nwk → RelayList → List ℕ → RecordOutcome
-storeRouteRecordCore s source relays store = recordedIn s (storedStep source (relaysOf relays) (s .«route_record_table») store)
+storeRouteRecordCore s source relays store = recordedIn s (storedStep source (relaysOf relays) (recordsIn s store))
 
 abbrev pub storeAfterRecordCore : Routing → Nwk → RelayList → List ℕ → List ℕ
-storeAfterRecordCore s source relays store = storedStore source (relaysOf relays) (s .«route_record_table») store
+storeAfterRecordCore s source relays store = storeFor (storedStep source (relaysOf relays) (recordsIn s store) .records)
 
 unfoldable pub storeRouteRecord : Routing → Nwk → RelayList → List ℕ → RecordOutcome
 storeRouteRecord s source relays store =
     cond (wellFormed s)
-    (cond (agrees (s .«route_record_table») store)
+    (cond (agrees (recordTable s) store)
     (cond (ltb 32 (relays .count)) (refusedRecord s ListTooLong) (storeRouteRecordCore s source relays store))
     (refusedRecord s StoreDisagrees))
     (refusedRecord s StateIllFormed)
@@ -85,25 +78,28 @@ storeRouteRecord s source relays store =
 unfoldable pub storeAfterRecord : Routing → Nwk → RelayList → List ℕ → List ℕ
 storeAfterRecord s source relays store =
     cond (wellFormed s)
-    (cond (agrees (s .«route_record_table») store) (cond (ltb 32 (relays .count)) store (storeAfterRecordCore s source relays store)) store)
+    (cond (agrees (recordTable s) store) (cond (ltb 32 (relays .count)) store (storeAfterRecordCore s source relays store)) store)
     store
 
 -- The record of a destination is removed; whether there was one, and the store after it.
 abbrev pub removeRouteRecordCore : Routing → Nwk → List ℕ → ToldOutcome
-removeRouteRecordCore s destination store = unrecordedIn s (removedStep destination (s .«route_record_table») store)
+removeRouteRecordCore s destination store = record {
+  answer = told.Told (isThere (lookup addressKey (destination .0) (recordsIn s store)));
+  state = withRecords s (remove addressKey (destination .0) (recordsIn s store));
+}
 
 abbrev pub storeAfterRemovalCore : Routing → Nwk → List ℕ → List ℕ
-storeAfterRemovalCore s destination store = removedStore destination (s .«route_record_table») store
+storeAfterRemovalCore s destination store = storeFor (remove addressKey (destination .0) (recordsIn s store))
 
 unfoldable pub removeRouteRecord : Routing → Nwk → List ℕ → ToldOutcome
 removeRouteRecord s destination store =
     cond (wellFormed s)
-    (cond (agrees (s .«route_record_table») store) (removeRouteRecordCore s destination store) (refusedTold s StoreDisagrees))
+    (cond (agrees (recordTable s) store) (removeRouteRecordCore s destination store) (refusedTold s StoreDisagrees))
     (refusedTold s StateIllFormed)
 
 unfoldable pub storeAfterRemoval : Routing → Nwk → List ℕ → List ℕ
 storeAfterRemoval s destination store =
-    cond (wellFormed s) (cond (agrees (s .«route_record_table») store) (storeAfterRemovalCore s destination store) store) store
+    cond (wellFormed s) (cond (agrees (recordTable s) store) (storeAfterRemovalCore s destination store) store) store
 
 -- "the hop to be returned, by .. the route query .., is 0xFFFF from an Active route": 6
 abbrev pub hopTo : HopAnswer → RouteToAnswer
@@ -115,19 +111,19 @@ hopTo hop.Unknown = way.Refused UnknownNextHop
 abbrev pub answerBy : Routing → Nwk → RecordRoute → RouteToAnswer
 answerBy s destination record-route.Direct = way.NextHop destination
 answerBy s destination record-route.SourceRoute = way.SourceRoute
-answerBy s destination record-route.None = hopTo (hopAnswer (hopAt (destination .0) (rowsOf (s .«route_table»))))
+answerBy s destination record-route.None = hopTo (hopAnswer (hopAt (destination .0) (routesIn s)))
 
 abbrev pub wayIn : Routing → Nwk → RecordWay → RouteToOutcome
 wayIn s destination x = record { answer = answerBy s destination (x .route); relays = x .relays }
 
 -- The way to a destination, by a limit on the relays and by the default policy: "longest source route 12".
 abbrev pub routeToCore : Routing → Nwk → ℕ → List ℕ → RouteToOutcome
-routeToCore s destination limit store = wayIn s destination (wayTo destination limit (s .«route_record_table») store)
+routeToCore s destination limit store = wayIn s destination (wayTo destination limit (recordTable s) store)
 
 unfoldable pub routeTo : Routing → Nwk → ℕ → List ℕ → RouteToOutcome
 routeTo s destination limit store =
     cond (wellFormed s)
-    (cond (agrees (s .«route_record_table») store) (routeToCore s destination limit store) (refusedWay StoreDisagrees))
+    (cond (agrees (recordTable s) store) (routeToCore s destination limit store) (refusedWay StoreDisagrees))
     (refusedWay StateIllFormed)
 
 abbrev pub routeToDefault : Routing → Nwk → List ℕ → RouteToOutcome
@@ -135,7 +131,7 @@ routeToDefault s destination store = routeTo s destination 12 store
 
 -- How many route records there are.
 abbrev pub recordCountCore : Routing → CountOutcome
-recordCountCore s = CountOutcome.Answered (length (records.rowsOf (s .«route_record_table»)))
+recordCountCore s = CountOutcome.Answered (length (records.rowsOf (recordTable s)))
 
 unfoldable pub recordCount : Routing → CountOutcome
 recordCount s = cond (wellFormed s) (recordCountCore s) (CountOutcome.Refused StateIllFormed)
@@ -152,10 +148,10 @@ abbrev pub rowIn : RecordRow → RecordAtOutcome
 rowIn x = record { answer = recordHere (x .entry); relays = x .relays }
 
 abbrev pub recordAtCore : Routing → ℕ → List ℕ → RecordAtOutcome
-recordAtCore s place store = rowIn (recordHeld place (s .«route_record_table») store)
+recordAtCore s place store = rowIn (recordHeld place (recordTable s) store)
 
 unfoldable pub recordAt : Routing → ℕ → List ℕ → RecordAtOutcome
 recordAt s place store =
     cond (wellFormed s)
-    (cond (agrees (s .«route_record_table») store) (recordAtCore s place store) (refusedRecordAt StoreDisagrees))
+    (cond (agrees (recordTable s) store) (recordAtCore s place store) (refusedRecordAt StoreDisagrees))
     (refusedRecordAt StateIllFormed)

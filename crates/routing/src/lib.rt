@@ -1,14 +1,11 @@
-// The routing state by value, and every call on it. Each call is a test of the state and a core form behind it, for proved callers.
+// The routing state by value, and every call on it. Each call tests the state, lends its columns to the rule, and puts them back.
 mod queries;
 mod records;
 mod routes;
 
 use discovery_table::Deadline;
 use discovery_table::DiscoveryLookup;
-use discovery_table::DiscoveryTable;
-use record_table::RecordTable;
 use route_begin::BeginAnswer;
-use route_begin::BeginStep;
 use route_calls::Checked;
 use route_calls::RouteAnswer;
 use route_calls::StatusAnswer;
@@ -16,25 +13,31 @@ use route_record::RecordAnswer;
 use route_reply::ReplyAnswer;
 use route_request::RequestAnswer;
 use route_table::RouteLookup;
-use route_table::RouteTable;
-use search_tables::SearchTables;
 use standard::ManyToOne;
 use standard::RecordEntry;
 use standard::RelayList;
 use types::Nwk;
 use types::Refusal;
 ghost use mathlib.Core.Path.{_≡_};
-ghost use Rattle.routing.specs.State.{WellFormed, wellFormed, fresh, searchOf, withSearch};
-ghost use Rattle.routing.specs.Search.{begunAs, acceptRouteReplyCore, acceptRouteReply, acceptRouteRequestCore, acceptRouteRequest, beginDiscoveryCore, beginDiscovery, beginManyToOneAdvertisementCore, beginManyToOneAdvertisement};
+ghost use Rattle.routing.specs.State.{wellFormed, fresh};
+ghost use Rattle.routing.specs.Search.{acceptRouteReply, acceptRouteRequest, beginDiscovery, beginManyToOneAdvertisement};
 
-// The trigger counters, the three tables and the last request id.
+// The trigger counters, the last request id, and the columns of the three tables: routes, discoveries, route records.
 pub struct Routing {
     pub mtorr_route_errors: u8,
     pub mtorr_delivery_failures: u8,
-    pub route_table: RouteTable,
-    pub discovery_table: DiscoveryTable,
-    pub route_record_table: RecordTable,
     pub request_sequence_number: u8,
+    pub route_keys: [u16; 64],
+    pub route_words: [u64; 64],
+    pub route_usage: [u32; 64],
+    pub routes: usize,
+    pub discovery_keys: [u32; 32],
+    pub discovery_words: [u64; 32],
+    pub discovery_ends: [u64; 32],
+    pub discoveries: usize,
+    pub record_keys: [u16; 64],
+    pub record_lengths: [u8; 64],
+    pub records: usize,
 }
 
 // That a call is done or refused, and the state after it.
@@ -153,16 +156,21 @@ impl Routing {
     pub fn new() -> Routing
         ensures { λ r. ⌜ r ≡ fresh ⌝ }
     {
-        let routes = route_table::new();
-        let discoveries = discovery_table::new();
-        let records = record_table::new();
         Routing {
             mtorr_route_errors: 0,
             mtorr_delivery_failures: 0,
-            route_table: routes,
-            discovery_table: discoveries,
-            route_record_table: records,
             request_sequence_number: 0,
+            route_keys: [0; 64],
+            route_words: [0; 64],
+            route_usage: [0; 64],
+            routes: 0,
+            discovery_keys: [0; 32],
+            discovery_words: [0; 32],
+            discovery_ends: [0; 32],
+            discoveries: 0,
+            record_keys: [0; 64],
+            record_lengths: [0; 64],
+            records: 0,
         }
     }
 
@@ -170,64 +178,23 @@ impl Routing {
     pub fn well_formed(self) -> bool
         ensures { λ r. ⌜ r ≡ wellFormed self ⌝ }
     {
-        let routes = self.route_table;
-        let discoveries = self.discovery_table;
-        let records = self.route_record_table;
-        route_table::well_formed(routes)
-            & (discovery_table::well_formed(discoveries) & record_table::well_formed(records))
-    }
-
-    // The tables that the rules of route search read and write.
-    fn search_part(self) -> SearchTables
-        ensures { λ r. ⌜ r ≡ searchOf self ⌝ }
-    {
-        let routes = self.route_table;
-        let discoveries = self.discovery_table;
-        SearchTables {
-            routes,
-            discoveries,
-        }
-    }
-
-    // The state with these tables put back.
-    fn with_search_part(self, t: SearchTables) -> Routing
-        ensures { λ r. ⌜ r ≡ withSearch self t ⌝ }
-    {
-        let routes = t.routes;
-        let discoveries = t.discoveries;
-        let mut s = self;
-        s.route_table = routes;
-        s.discovery_table = discoveries;
-        s
-    }
-
-    // `accept_route_reply` on a state that is well formed.
-    pub fn accept_route_reply_core(
-        self,
-        own: Nwk,
-        originator: Nwk,
-        request_id: u8,
-        responder: Nwk,
-        sender: Nwk,
-        updated_path_cost: u8,
-    ) -> RouteReplyOutcome
-        requires { ⌜ WellFormed self ⌝ }
-        ensures { λ r. ⌜ r ≡ acceptRouteReplyCore self own originator «request_id» responder sender «updated_path_cost» ⌝ }
-    {
-        let t = self.search_part();
-        let x = route_reply::reply(
-            t,
-            own,
-            originator,
-            request_id,
-            responder,
-            sender,
-            updated_path_cost,
+        let route_keys = self.route_keys;
+        let route_words = self.route_words;
+        let route_usage = self.route_usage;
+        let discovery_keys = self.discovery_keys;
+        let discovery_words = self.discovery_words;
+        let discovery_ends = self.discovery_ends;
+        let record_keys = self.record_keys;
+        let record_lengths = self.record_lengths;
+        let routes = route_table::well_formed(&route_keys, &route_words, &route_usage, self.routes);
+        let discoveries = discovery_table::well_formed(
+            &discovery_keys,
+            &discovery_words,
+            &discovery_ends,
+            self.discoveries,
         );
-        let answer = x.answer;
-        let after = x.tables;
-        let state = self.with_search_part(after);
-        RouteReplyOutcome { answer, state }
+        let records = record_table::well_formed(&record_keys, &record_lengths, self.records);
+        routes & (discoveries & records)
     }
 
     // A route reply heard from `sender`: dropped, established for our own search, or to be relayed.
@@ -248,47 +215,37 @@ impl Routing {
                 state: self,
             };
         }
-        self.accept_route_reply_core(
+        let mut route_keys = self.route_keys;
+        let mut route_words = self.route_words;
+        let mut route_usage = self.route_usage;
+        let discovery_keys = self.discovery_keys;
+        let mut discovery_words = self.discovery_words;
+        let mut discovery_ends = self.discovery_ends;
+        let x = route_reply::reply(
+            &mut route_keys,
+            &mut route_words,
+            &mut route_usage,
+            self.routes,
+            &discovery_keys,
+            &mut discovery_words,
+            &mut discovery_ends,
+            self.discoveries,
             own,
             originator,
             request_id,
             responder,
             sender,
             updated_path_cost,
-        )
-    }
-
-    // `accept_route_request` on a state that is well formed.
-    pub fn accept_route_request_core(
-        self,
-        originator: Nwk,
-        request_id: u8,
-        destination: Nwk,
-        sender: Nwk,
-        updated_path_cost: u8,
-        many_to_one: ManyToOne,
-        now: u64,
-        route_discovery_time: u64,
-    ) -> RouteRequestOutcome
-        requires { ⌜ WellFormed self ⌝ }
-        ensures { λ r. ⌜ r ≡ acceptRouteRequestCore self originator «request_id» destination sender «updated_path_cost» «many_to_one» now «route_discovery_time» ⌝ }
-    {
-        let t = self.search_part();
-        let x = route_request::request(
-            t,
-            originator,
-            request_id,
-            destination,
-            sender,
-            updated_path_cost,
-            many_to_one,
-            now,
-            route_discovery_time,
         );
         let answer = x.answer;
-        let after = x.tables;
-        let state = self.with_search_part(after);
-        RouteRequestOutcome { answer, state }
+        let mut state = self;
+        state.route_keys = route_keys;
+        state.route_words = route_words;
+        state.route_usage = route_usage;
+        state.routes = x.routes;
+        state.discovery_words = discovery_words;
+        state.discovery_ends = discovery_ends;
+        RouteReplyOutcome { answer, state }
     }
 
     // A route request heard from `sender`: whether it is accepted, and what it did to the originator's route.
@@ -311,7 +268,21 @@ impl Routing {
                 state: self,
             };
         }
-        self.accept_route_request_core(
+        let mut route_keys = self.route_keys;
+        let mut route_words = self.route_words;
+        let mut route_usage = self.route_usage;
+        let mut discovery_keys = self.discovery_keys;
+        let mut discovery_words = self.discovery_words;
+        let mut discovery_ends = self.discovery_ends;
+        let x = route_request::request(
+            &mut route_keys,
+            &mut route_words,
+            &mut route_usage,
+            self.routes,
+            &mut discovery_keys,
+            &mut discovery_words,
+            &mut discovery_ends,
+            self.discoveries,
             originator,
             request_id,
             destination,
@@ -320,43 +291,18 @@ impl Routing {
             many_to_one,
             now,
             route_discovery_time,
-        )
-    }
-
-    // The state after something was begun under an id, which a refusal does not use up.
-    fn after_begin(self, x: BeginStep, id: u8) -> BeginOutcome
-        ensures { λ r. ⌜ r ≡ begunAs self id x ⌝ }
-    {
+        );
         let answer = x.answer;
-        match answer {
-            BeginAnswer::Refused(_) => BeginOutcome {
-                answer,
-                state: self,
-            },
-            BeginAnswer::Begun(_) => {
-                let after = x.tables;
-                let mut state = self.with_search_part(after);
-                state.request_sequence_number = id;
-                BeginOutcome { answer, state }
-            }
-        }
-    }
-
-    // `begin_discovery` on a state that is well formed.
-    pub fn begin_discovery_core(
-        self,
-        own: Nwk,
-        destination: Nwk,
-        now: u64,
-        route_discovery_time: u64,
-    ) -> BeginOutcome
-        requires { ⌜ WellFormed self ⌝ }
-        ensures { λ r. ⌜ r ≡ beginDiscoveryCore self own destination now «route_discovery_time» ⌝ }
-    {
-        let t = self.search_part();
-        let id = types::next_id(self.request_sequence_number);
-        let x = route_begin::begin(t, own, id, destination, now, route_discovery_time);
-        self.after_begin(x, id)
+        let mut state = self;
+        state.route_keys = route_keys;
+        state.route_words = route_words;
+        state.route_usage = route_usage;
+        state.routes = x.routes;
+        state.discovery_keys = discovery_keys;
+        state.discovery_words = discovery_words;
+        state.discovery_ends = discovery_ends;
+        state.discoveries = x.discoveries;
+        RouteRequestOutcome { answer, state }
     }
 
     // A search of our own: the route becomes DiscoveryUnderway; the answer is the request id.
@@ -375,23 +321,46 @@ impl Routing {
                 state: self,
             };
         }
-        self.begin_discovery_core(own, destination, now, route_discovery_time)
-    }
-
-    // `begin_many_to_one_advertisement` on a state that is well formed.
-    pub fn begin_many_to_one_advertisement_core(
-        self,
-        own: Nwk,
-        now: u64,
-        route_discovery_time: u64,
-    ) -> BeginOutcome
-        requires { ⌜ WellFormed self ⌝ }
-        ensures { λ r. ⌜ r ≡ beginManyToOneAdvertisementCore self own now «route_discovery_time» ⌝ }
-    {
-        let t = self.search_part();
         let id = types::next_id(self.request_sequence_number);
-        let x = route_begin::advertise(t, own, id, now, route_discovery_time);
-        self.after_begin(x, id)
+        let mut route_keys = self.route_keys;
+        let mut route_words = self.route_words;
+        let mut route_usage = self.route_usage;
+        let mut discovery_keys = self.discovery_keys;
+        let mut discovery_words = self.discovery_words;
+        let mut discovery_ends = self.discovery_ends;
+        let x = route_begin::begin(
+            &mut route_keys,
+            &mut route_words,
+            &mut route_usage,
+            self.routes,
+            &mut discovery_keys,
+            &mut discovery_words,
+            &mut discovery_ends,
+            self.discoveries,
+            own,
+            id,
+            destination,
+            now,
+            route_discovery_time,
+        );
+        let answer = x.answer;
+        let BeginAnswer::Begun(_) = answer else {
+            return BeginOutcome {
+                answer,
+                state: self,
+            };
+        };
+        let mut state = self;
+        state.route_keys = route_keys;
+        state.route_words = route_words;
+        state.route_usage = route_usage;
+        state.routes = x.routes;
+        state.discovery_keys = discovery_keys;
+        state.discovery_words = discovery_words;
+        state.discovery_ends = discovery_ends;
+        state.discoveries = x.discoveries;
+        state.request_sequence_number = id;
+        BeginOutcome { answer, state }
     }
 
     // A many-to-one advertisement: the entry that stops its echoes; the answer is the request id.
@@ -409,6 +378,44 @@ impl Routing {
                 state: self,
             };
         }
-        self.begin_many_to_one_advertisement_core(own, now, route_discovery_time)
+        let id = types::next_id(self.request_sequence_number);
+        let mut route_keys = self.route_keys;
+        let mut route_words = self.route_words;
+        let mut route_usage = self.route_usage;
+        let mut discovery_keys = self.discovery_keys;
+        let mut discovery_words = self.discovery_words;
+        let mut discovery_ends = self.discovery_ends;
+        let x = route_begin::advertise(
+            &mut route_keys,
+            &mut route_words,
+            &mut route_usage,
+            self.routes,
+            &mut discovery_keys,
+            &mut discovery_words,
+            &mut discovery_ends,
+            self.discoveries,
+            own,
+            id,
+            now,
+            route_discovery_time,
+        );
+        let answer = x.answer;
+        let BeginAnswer::Begun(_) = answer else {
+            return BeginOutcome {
+                answer,
+                state: self,
+            };
+        };
+        let mut state = self;
+        state.route_keys = route_keys;
+        state.route_words = route_words;
+        state.route_usage = route_usage;
+        state.routes = x.routes;
+        state.discovery_keys = discovery_keys;
+        state.discovery_words = discovery_words;
+        state.discovery_ends = discovery_ends;
+        state.discoveries = x.discoveries;
+        state.request_sequence_number = id;
+        BeginOutcome { answer, state }
     }
 }

@@ -16,18 +16,23 @@ use types::Nwk;
 use types::Refusal;
 ghost use mathlib.Core.Path.{_≡_};
 ghost use Rattle.routing.specs.State.{WellFormed};
-ghost use Rattle.routing.specs.Queries.{routeStatusCore, routeStatus, discoveryDeadlineCore, discoveryDeadline, routeCountCore, routeCount, discoveryCountCore, discoveryCount, routeAtCore, routeAt, discoveryAtCore, discoveryAt, checkTablesCore, checkTables, nextHopCore, nextHop, noteRouteErrorCore, noteRouteError, noteDeliveryFailureCore, noteDeliveryFailure, resetMtorrTriggersCore, resetMtorrTriggers};
+ghost use Rattle.routing.specs.Routes.{routesIn};
+ghost use Rattle.route_calls.specs.Answer.{hopAnswer};
+ghost use Rattle.standard.specs.Calls.{hopAt};
+ghost use Rattle.routing.specs.Queries.{routeStatus, discoveryDeadline, routeCount, discoveryCount, routeAt, discoveryAt, checkTables, hopOutcome, nextHop, noteRouteError, noteDeliveryFailure, resetMtorrTriggers};
+
+// The hop that the route table names, as an answer: one that is not known is refusal 6.
+fn hop_outcome(hop: HopAnswer) -> HopOutcome
+    ensures { λ r. ⌜ r ≡ hopOutcome hop ⌝ }
+{
+    match hop {
+        HopAnswer::NoRoute => HopOutcome::NoRoute,
+        HopAnswer::Hop(n) => HopOutcome::Hop(n),
+        HopAnswer::Unknown => HopOutcome::Refused(Refusal::UnknownNextHop),
+    }
+}
 
 impl Routing {
-    // `route_status` on a state that is well formed.
-    pub fn route_status_core(self, destination: Nwk) -> StatusOutcome
-        requires { ⌜ WellFormed self ⌝ }
-        ensures { λ r. ⌜ r ≡ routeStatusCore self destination ⌝ }
-    {
-        let routes = self.route_table;
-        StatusOutcome::Answered(route_calls::route_status(routes, destination))
-    }
-
     // How the route to a destination stands.
     pub fn route_status(self, destination: Nwk) -> StatusOutcome
         ensures { λ r. ⌜ r ≡ routeStatus self destination ⌝ }
@@ -35,20 +40,17 @@ impl Routing {
         if !self.well_formed() {
             return StatusOutcome::Refused(Refusal::StateIllFormed);
         }
-        self.route_status_core(destination)
-    }
-
-    // `discovery_deadline` on a state that is well formed.
-    pub fn discovery_deadline_core(self, destination: Nwk, now: u64) -> DeadlineOutcome
-        requires { ⌜ WellFormed self ⌝ }
-        ensures { λ r. ⌜ r ≡ discoveryDeadlineCore self destination now ⌝ }
-    {
-        let discoveries = self.discovery_table;
-        DeadlineOutcome::Answered(discovery_table::discovery_deadline(
-            discoveries,
+        let route_keys = self.route_keys;
+        let route_words = self.route_words;
+        let route_usage = self.route_usage;
+        let answer = route_calls::route_status(
+            &route_keys,
+            &route_words,
+            &route_usage,
+            self.routes,
             destination,
-            now,
-        ))
+        );
+        StatusOutcome::Answered(answer)
     }
 
     // When the first live discovery of the way to a destination is over.
@@ -58,16 +60,18 @@ impl Routing {
         if !self.well_formed() {
             return DeadlineOutcome::Refused(Refusal::StateIllFormed);
         }
-        self.discovery_deadline_core(destination, now)
-    }
-
-    // `route_count` on a state that is well formed.
-    pub fn route_count_core(self) -> CountOutcome
-        requires { ⌜ WellFormed self ⌝ }
-        ensures { λ r. ⌜ r ≡ routeCountCore self ⌝ }
-    {
-        let routes = self.route_table;
-        CountOutcome::Answered(route_table::count_of(routes))
+        let discovery_keys = self.discovery_keys;
+        let discovery_words = self.discovery_words;
+        let discovery_ends = self.discovery_ends;
+        let answer = discovery_table::discovery_deadline(
+            &discovery_keys,
+            &discovery_words,
+            &discovery_ends,
+            self.discoveries,
+            destination,
+            now,
+        );
+        DeadlineOutcome::Answered(answer)
     }
 
     // How many routes there are.
@@ -77,16 +81,7 @@ impl Routing {
         if !self.well_formed() {
             return CountOutcome::Refused(Refusal::StateIllFormed);
         }
-        self.route_count_core()
-    }
-
-    // `discovery_count` on a state that is well formed.
-    pub fn discovery_count_core(self) -> CountOutcome
-        requires { ⌜ WellFormed self ⌝ }
-        ensures { λ r. ⌜ r ≡ discoveryCountCore self ⌝ }
-    {
-        let discoveries = self.discovery_table;
-        CountOutcome::Answered(discovery_table::count_of(discoveries))
+        CountOutcome::Answered(self.routes)
     }
 
     // How many discoveries there are.
@@ -96,16 +91,7 @@ impl Routing {
         if !self.well_formed() {
             return CountOutcome::Refused(Refusal::StateIllFormed);
         }
-        self.discovery_count_core()
-    }
-
-    // `route_at` on a state that is well formed.
-    pub fn route_at_core(self, place: usize) -> RouteAtOutcome
-        requires { ⌜ WellFormed self ⌝ }
-        ensures { λ r. ⌜ r ≡ routeAtCore self place ⌝ }
-    {
-        let routes = self.route_table;
-        RouteAtOutcome::Answered(route_table::entry_at(routes, place))
+        CountOutcome::Answered(self.discoveries)
     }
 
     // The route at a place in ascending order, and nothing from the count on.
@@ -115,16 +101,11 @@ impl Routing {
         if !self.well_formed() {
             return RouteAtOutcome::Refused(Refusal::StateIllFormed);
         }
-        self.route_at_core(place)
-    }
-
-    // `discovery_at` on a state that is well formed.
-    pub fn discovery_at_core(self, place: usize) -> DiscoveryAtOutcome
-        requires { ⌜ WellFormed self ⌝ }
-        ensures { λ r. ⌜ r ≡ discoveryAtCore self place ⌝ }
-    {
-        let discoveries = self.discovery_table;
-        DiscoveryAtOutcome::Answered(discovery_table::entry_at(discoveries, place))
+        let route_keys = self.route_keys;
+        let route_words = self.route_words;
+        let route_usage = self.route_usage;
+        let answer = route_table::at(&route_keys, &route_words, &route_usage, self.routes, place);
+        RouteAtOutcome::Answered(answer)
     }
 
     // The discovery at a place in ascending order, and nothing from the count on.
@@ -134,17 +115,17 @@ impl Routing {
         if !self.well_formed() {
             return DiscoveryAtOutcome::Refused(Refusal::StateIllFormed);
         }
-        self.discovery_at_core(place)
-    }
-
-    // `check` on a state that is well formed.
-    pub fn check_core(self) -> CheckOutcome
-        requires { ⌜ WellFormed self ⌝ }
-        ensures { λ r. ⌜ r ≡ checkTablesCore self ⌝ }
-    {
-        let routes = self.route_table;
-        let discoveries = self.discovery_table;
-        CheckOutcome::Answered(route_calls::check(routes, discoveries))
+        let discovery_keys = self.discovery_keys;
+        let discovery_words = self.discovery_words;
+        let discovery_ends = self.discovery_ends;
+        let answer = discovery_table::at(
+            &discovery_keys,
+            &discovery_words,
+            &discovery_ends,
+            self.discoveries,
+            place,
+        );
+        DiscoveryAtOutcome::Answered(answer)
     }
 
     // The table check: sound, or the first fault in ascending order of destination.
@@ -154,21 +135,40 @@ impl Routing {
         if !self.well_formed() {
             return CheckOutcome::Refused(Refusal::StateIllFormed);
         }
-        self.check_core()
+        let route_keys = self.route_keys;
+        let route_words = self.route_words;
+        let route_usage = self.route_usage;
+        let discovery_keys = self.discovery_keys;
+        let discovery_words = self.discovery_words;
+        let discovery_ends = self.discovery_ends;
+        let answer = route_calls::check(
+            &route_keys,
+            &route_words,
+            &route_usage,
+            self.routes,
+            &discovery_keys,
+            &discovery_words,
+            &discovery_ends,
+            self.discoveries,
+        );
+        CheckOutcome::Answered(answer)
     }
 
-    // `next_hop` on a state that is well formed.
-    pub fn next_hop_core(self, destination: Nwk) -> HopOutcome
+    // The hop that the Active route to a destination names, on a state that is well formed.
+    pub fn active_hop(self, destination: Nwk) -> HopAnswer
         requires { ⌜ WellFormed self ⌝ }
-        ensures { λ r. ⌜ r ≡ nextHopCore self destination ⌝ }
+        ensures { λ r. ⌜ r ≡ hopAnswer (hopAt (destination .0) (routesIn self)) ⌝ }
     {
-        let routes = self.route_table;
-        let hop = route_calls::next_hop(routes, destination);
-        match hop {
-            HopAnswer::NoRoute => HopOutcome::NoRoute,
-            HopAnswer::Hop(n) => HopOutcome::Hop(n),
-            HopAnswer::Unknown => HopOutcome::Refused(Refusal::UnknownNextHop),
-        }
+        let route_keys = self.route_keys;
+        let route_words = self.route_words;
+        let route_usage = self.route_usage;
+        route_calls::next_hop(
+            &route_keys,
+            &route_words,
+            &route_usage,
+            self.routes,
+            destination,
+        )
     }
 
     // The next hop to a destination by its Active route. A hop that is not known is refusal 6.
@@ -178,20 +178,7 @@ impl Routing {
         if !self.well_formed() {
             return HopOutcome::Refused(Refusal::StateIllFormed);
         }
-        self.next_hop_core(destination)
-    }
-
-    // `note_route_error` without the test of the state.
-    pub fn note_route_error_core(self, threshold: u8) -> ToldOutcome
-        ensures { λ r. ⌜ r ≡ noteRouteErrorCore self threshold ⌝ }
-    {
-        let count = types::saturating_add_u8(self.mtorr_route_errors, 1);
-        let mut state = self;
-        state.mtorr_route_errors = count;
-        ToldOutcome {
-            answer: ToldAnswer::Told(threshold <= count),
-            state,
-        }
+        hop_outcome(self.active_hop(destination))
     }
 
     // A route failure was heard: whether the signals reach the threshold.
@@ -201,16 +188,9 @@ impl Routing {
         if !self.well_formed() {
             return self.refuse_told(Refusal::StateIllFormed);
         }
-        self.note_route_error_core(threshold)
-    }
-
-    // `note_delivery_failure` without the test of the state.
-    pub fn note_delivery_failure_core(self, threshold: u8) -> ToldOutcome
-        ensures { λ r. ⌜ r ≡ noteDeliveryFailureCore self threshold ⌝ }
-    {
-        let count = types::saturating_add_u8(self.mtorr_delivery_failures, 1);
+        let count = types::saturating_add_u8(self.mtorr_route_errors, 1);
         let mut state = self;
-        state.mtorr_delivery_failures = count;
+        state.mtorr_route_errors = count;
         ToldOutcome {
             answer: ToldAnswer::Told(threshold <= count),
             state,
@@ -224,18 +204,11 @@ impl Routing {
         if !self.well_formed() {
             return self.refuse_told(Refusal::StateIllFormed);
         }
-        self.note_delivery_failure_core(threshold)
-    }
-
-    // `reset_mtorr_triggers` without the test of the state.
-    pub fn reset_mtorr_triggers_core(self) -> DoneOutcome
-        ensures { λ r. ⌜ r ≡ resetMtorrTriggersCore self ⌝ }
-    {
+        let count = types::saturating_add_u8(self.mtorr_delivery_failures, 1);
         let mut state = self;
-        state.mtorr_route_errors = 0;
-        state.mtorr_delivery_failures = 0;
-        DoneOutcome {
-            answer: RouteAnswer::Done,
+        state.mtorr_delivery_failures = count;
+        ToldOutcome {
+            answer: ToldAnswer::Told(threshold <= count),
             state,
         }
     }
@@ -247,6 +220,12 @@ impl Routing {
         if !self.well_formed() {
             return self.refuse_done();
         }
-        self.reset_mtorr_triggers_core()
+        let mut state = self;
+        state.mtorr_route_errors = 0;
+        state.mtorr_delivery_failures = 0;
+        DoneOutcome {
+            answer: RouteAnswer::Done,
+            state,
+        }
     }
 }

@@ -9,7 +9,6 @@ use crate::Routing;
 use crate::ToldAnswer;
 use crate::ToldOutcome;
 use record_table::RecordLookup;
-use record_table::RecordTable;
 use route_calls::HopAnswer;
 use route_record::RecordAnswer;
 use standard::RecordRoute;
@@ -17,10 +16,9 @@ use standard::RelayList;
 use types::Nwk;
 use types::Refusal;
 ghost use mathlib.Core.Path.{_≡_};
-ghost use Prim.Native.Nat.{_≤_};
-ghost use Rattle.relay_store.specs.Store.{Agrees};
-ghost use Rattle.routing.specs.State.{WellFormed};
-ghost use Rattle.routing.specs.Records.{withRecords, refusedRecord, refusedWay, storeRouteRecordCore, storeRouteRecord, storeAfterRecordCore, storeAfterRecord, removeRouteRecordCore, removeRouteRecord, storeAfterRemovalCore, storeAfterRemoval, hopTo, answerBy, routeToCore, routeTo, routeToDefault, recordCountCore, recordCount, recordHere, refusedRecordAt, recordAtCore, recordAt};
+ghost use Rattle.relay_store.specs.Store.{agrees, Agrees};
+ghost use Rattle.routing.specs.State.{WellFormed, recordTable};
+ghost use Rattle.routing.specs.Records.{refusedRecord, refusedWay, storeRouteRecord, storeAfterRecord, removeRouteRecord, storeAfterRemoval, hopTo, answerBy, routeToCore, routeTo, routeToDefault, recordCount, recordHere, refusedRecordAt, recordAt};
 
 // The hop that the route table names, as the way: one that is not known is refusal 6.
 fn hop_to(hop: HopAnswer) -> RouteToAnswer
@@ -66,13 +64,13 @@ fn refuse_record_at(refusal: Refusal) -> RecordAtOutcome
 }
 
 impl Routing {
-    // The state with its record table put back.
-    fn with_records(self, t: RecordTable) -> Routing
-        ensures { λ r. ⌜ r ≡ withRecords self t ⌝ }
+    // Whether a store agrees with the record table, which is well formed.
+    pub fn agrees(self, store: &[u16]) -> bool
+        requires { ⌜ WellFormed self ⌝ }
+        ensures { λ r. ⌜ r ≡ agrees (recordTable self) (now (store .entry)) ⌝ }
     {
-        let mut s = self;
-        s.route_record_table = t;
-        s
+        let record_lengths = self.record_lengths;
+        relay_store::agrees(&record_lengths, store)
     }
 
     // The state as it came, for a refusal.
@@ -83,25 +81,6 @@ impl Routing {
             answer: RecordAnswer::Refused(refusal),
             state: self,
         }
-    }
-
-    // `store_route_record` on a state that is well formed, a store that agrees with it and at most 32 relays.
-    pub fn store_route_record_core(
-        self,
-        store: &mut [u16],
-        source: Nwk,
-        relays: RelayList,
-    ) -> RecordOutcome
-        requires { ⌜ WellFormed self × Agrees (self .«route_record_table») (now store) × (relays .count ≤ 32) ⌝ }
-        ensures { λ r. ⌜ r ≡ storeRouteRecordCore self source relays (now (store .entry)) ⌝ }
-        ensures { λ _. ⌜ now (store .exit) ≡ storeAfterRecordCore self source relays (now (store .entry)) ⌝ }
-    {
-        let t = self.route_record_table;
-        let x = route_record::store_record(t, store, source, relays);
-        let answer = x.answer;
-        let u = x.table;
-        let state = self.with_records(u);
-        RecordOutcome { answer, state }
     }
 
     // A route record of a source: each relay gets the relays after it, and then the source gets all of them.
@@ -117,30 +96,28 @@ impl Routing {
         if !self.well_formed() {
             return self.refuse_record(Refusal::StateIllFormed);
         }
-        let t = self.route_record_table;
-        if !relay_store::agrees(t, store) {
+        if !self.agrees(store) {
             return self.refuse_record(Refusal::StoreDisagrees);
         }
         if 32 < relays.count {
             return self.refuse_record(Refusal::ListTooLong);
         }
-        self.store_route_record_core(store, source, relays)
-    }
-
-    // `remove_route_record` on a state that is well formed and a store that agrees with it.
-    pub fn remove_route_record_core(self, store: &mut [u16], destination: Nwk) -> ToldOutcome
-        requires { ⌜ WellFormed self × Agrees (self .«route_record_table») (now store) ⌝ }
-        ensures { λ r. ⌜ r ≡ removeRouteRecordCore self destination (now (store .entry)) ⌝ }
-        ensures { λ _. ⌜ now (store .exit) ≡ storeAfterRemovalCore self destination (now (store .entry)) ⌝ }
-    {
-        let t = self.route_record_table;
-        let x = route_record::remove_record(t, store, destination);
-        let u = x.table;
-        let state = self.with_records(u);
-        ToldOutcome {
-            answer: ToldAnswer::Told(x.removed),
-            state,
-        }
+        let mut record_keys = self.record_keys;
+        let mut record_lengths = self.record_lengths;
+        let x = route_record::store_record(
+            &mut record_keys,
+            &mut record_lengths,
+            self.records,
+            store,
+            source,
+            relays,
+        );
+        let answer = x.answer;
+        let mut state = self;
+        state.record_keys = record_keys;
+        state.record_lengths = record_lengths;
+        state.records = x.records;
+        RecordOutcome { answer, state }
     }
 
     // The record of a destination is removed; whether there was one.
@@ -151,11 +128,26 @@ impl Routing {
         if !self.well_formed() {
             return self.refuse_told(Refusal::StateIllFormed);
         }
-        let t = self.route_record_table;
-        if !relay_store::agrees(t, store) {
+        if !self.agrees(store) {
             return self.refuse_told(Refusal::StoreDisagrees);
         }
-        self.remove_route_record_core(store, destination)
+        let mut record_keys = self.record_keys;
+        let mut record_lengths = self.record_lengths;
+        let x = route_record::remove_record(
+            &mut record_keys,
+            &mut record_lengths,
+            self.records,
+            store,
+            destination,
+        );
+        let mut state = self;
+        state.record_keys = record_keys;
+        state.record_lengths = record_lengths;
+        state.records = x.records;
+        ToldOutcome {
+            answer: ToldAnswer::Told(x.removed),
+            state,
+        }
     }
 
     // What a record's word on the way comes to: where it names none, the Active route decides.
@@ -167,8 +159,8 @@ impl Routing {
             RecordRoute::Direct => RouteToAnswer::NextHop(destination),
             RecordRoute::SourceRoute => RouteToAnswer::SourceRoute,
             RecordRoute::None => {
-                let routes = self.route_table;
-                hop_to(route_calls::next_hop(routes, destination))
+                let hop = self.active_hop(destination);
+                hop_to(hop)
             }
         }
     }
@@ -180,11 +172,19 @@ impl Routing {
         destination: Nwk,
         max_source_route: u8,
     ) -> RouteToOutcome
-        requires { ⌜ WellFormed self × Agrees (self .«route_record_table») (now store) ⌝ }
+        requires { ⌜ WellFormed self × Agrees (recordTable self) (now store) ⌝ }
         ensures { λ r. ⌜ r ≡ routeToCore self destination «max_source_route» (now (store .entry)) ⌝ }
     {
-        let t = self.route_record_table;
-        let x = route_record::way_to(t, store, destination, max_source_route);
+        let record_keys = self.record_keys;
+        let record_lengths = self.record_lengths;
+        let x = route_record::way_to(
+            &record_keys,
+            &record_lengths,
+            self.records,
+            store,
+            destination,
+            max_source_route,
+        );
         let way = x.route;
         let relays = x.relays;
         let answer = self.answer_by(destination, way);
@@ -198,8 +198,7 @@ impl Routing {
         if !self.well_formed() {
             return refuse_way(Refusal::StateIllFormed);
         }
-        let t = self.route_record_table;
-        if !relay_store::agrees(t, store) {
+        if !self.agrees(store) {
             return refuse_way(Refusal::StoreDisagrees);
         }
         self.route_to_core(store, destination, max_source_route)
@@ -212,15 +211,6 @@ impl Routing {
         self.route_to(store, destination, 12)
     }
 
-    // `record_count` on a state that is well formed.
-    pub fn record_count_core(self) -> CountOutcome
-        requires { ⌜ WellFormed self ⌝ }
-        ensures { λ r. ⌜ r ≡ recordCountCore self ⌝ }
-    {
-        let records = self.route_record_table;
-        CountOutcome::Answered(record_table::count_of(records))
-    }
-
     // How many route records there are.
     pub fn record_count(self) -> CountOutcome
         ensures { λ r. ⌜ r ≡ recordCount self ⌝ }
@@ -228,20 +218,7 @@ impl Routing {
         if !self.well_formed() {
             return CountOutcome::Refused(Refusal::StateIllFormed);
         }
-        self.record_count_core()
-    }
-
-    // `record_at` on a state that is well formed and a store that agrees with it.
-    pub fn record_at_core(self, store: &[u16], place: usize) -> RecordAtOutcome
-        requires { ⌜ WellFormed self × Agrees (self .«route_record_table») (now store) ⌝ }
-        ensures { λ r. ⌜ r ≡ recordAtCore self place (now (store .entry)) ⌝ }
-    {
-        let t = self.route_record_table;
-        let row = route_record::record_at(t, store, place);
-        let entry = row.entry;
-        let relays = row.relays;
-        let answer = record_here(entry);
-        RecordAtOutcome { answer, relays }
+        CountOutcome::Answered(self.records)
     }
 
     // The route record at a place in ascending order with its relays, and nothing from the count on.
@@ -251,10 +228,21 @@ impl Routing {
         if !self.well_formed() {
             return refuse_record_at(Refusal::StateIllFormed);
         }
-        let t = self.route_record_table;
-        if !relay_store::agrees(t, store) {
+        if !self.agrees(store) {
             return refuse_record_at(Refusal::StoreDisagrees);
         }
-        self.record_at_core(store, place)
+        let record_keys = self.record_keys;
+        let record_lengths = self.record_lengths;
+        let row = route_record::record_at(
+            &record_keys,
+            &record_lengths,
+            self.records,
+            store,
+            place,
+        );
+        let entry = row.entry;
+        let relays = row.relays;
+        let answer = record_here(entry);
+        RecordAtOutcome { answer, relays }
     }
 }

@@ -3,59 +3,13 @@ use crate::DoneOutcome;
 use crate::Routing;
 use crate::ToldAnswer;
 use crate::ToldOutcome;
-use route_calls::Removed;
 use route_calls::RouteAnswer;
-use route_calls::RouteStep;
-use route_table::RouteTable;
 use types::Nwk;
 use types::Refusal;
 ghost use mathlib.Core.Path.{_≡_};
-ghost use Rattle.routing.specs.State.{WellFormed};
-ghost use Rattle.routing.specs.Routes.{withRoutes, doneWith, steppedTo, removedFrom, refusedDone, refusedTold, markDiscoveryFailedCore, markDiscoveryFailed, recordUsageCore, recordUsage, noteSourceRoutedFrameCore, noteSourceRoutedFrame, decayActivityCore, decayActivity, invalidateViaCore, invalidateVia, restoreRouteCore, restoreRoute, noteRelayedDiscoveryCore, noteRelayedDiscovery, removeRouteCore, removeRoute};
+ghost use Rattle.routing.specs.Routes.{refusedDone, refusedTold, markDiscoveryFailed, recordUsage, noteSourceRoutedFrame, decayActivity, invalidateVia, restoreRoute, noteRelayedDiscovery, removeRoute};
 
 impl Routing {
-    // The state with its route table put back.
-    fn with_routes(self, t: RouteTable) -> Routing
-        ensures { λ r. ⌜ r ≡ withRoutes self t ⌝ }
-    {
-        let mut s = self;
-        s.route_table = t;
-        s
-    }
-
-    // Done, with this route table.
-    fn done_with(self, t: RouteTable) -> DoneOutcome
-        ensures { λ r. ⌜ r ≡ doneWith self t ⌝ }
-    {
-        let state = self.with_routes(t);
-        DoneOutcome {
-            answer: RouteAnswer::Done,
-            state,
-        }
-    }
-
-    // Done or refused, as the step on the route table says.
-    fn stepped_to(self, x: RouteStep) -> DoneOutcome
-        ensures { λ r. ⌜ r ≡ steppedTo self x ⌝ }
-    {
-        let answer = x.answer;
-        let t = x.table;
-        let state = self.with_routes(t);
-        DoneOutcome { answer, state }
-    }
-
-    // Told, with this route table.
-    fn removed_from(self, x: Removed) -> ToldOutcome
-        ensures { λ r. ⌜ r ≡ removedFrom self x ⌝ }
-    {
-        let t = x.table;
-        let state = self.with_routes(t);
-        ToldOutcome {
-            answer: ToldAnswer::Told(x.removed),
-            state,
-        }
-    }
-
     // The state as it came: it is not well formed.
     pub(crate) fn refuse_done(self) -> DoneOutcome
         ensures { λ r. ⌜ r ≡ refusedDone self ⌝ }
@@ -76,16 +30,6 @@ impl Routing {
         }
     }
 
-    // `mark_discovery_failed` on a state that is well formed.
-    pub fn mark_discovery_failed_core(self, destination: Nwk) -> DoneOutcome
-        requires { ⌜ WellFormed self ⌝ }
-        ensures { λ r. ⌜ r ≡ markDiscoveryFailedCore self destination ⌝ }
-    {
-        let t = self.route_table;
-        let u = route_calls::mark_discovery_failed(t, destination);
-        self.done_with(u)
-    }
-
     // No discovery of the way to a destination has brought one.
     pub fn mark_discovery_failed(self, destination: Nwk) -> DoneOutcome
         ensures { λ r. ⌜ r ≡ markDiscoveryFailed self destination ⌝ }
@@ -93,17 +37,23 @@ impl Routing {
         if !self.well_formed() {
             return self.refuse_done();
         }
-        self.mark_discovery_failed_core(destination)
-    }
-
-    // `record_usage` on a state that is well formed.
-    pub fn record_usage_core(self, destination: Nwk) -> DoneOutcome
-        requires { ⌜ WellFormed self ⌝ }
-        ensures { λ r. ⌜ r ≡ recordUsageCore self destination ⌝ }
-    {
-        let t = self.route_table;
-        let u = route_calls::record_usage(t, destination);
-        self.done_with(u)
+        let route_keys = self.route_keys;
+        let mut route_words = self.route_words;
+        let mut route_usage = self.route_usage;
+        route_calls::mark_discovery_failed(
+            &route_keys,
+            &mut route_words,
+            &mut route_usage,
+            self.routes,
+            destination,
+        );
+        let mut state = self;
+        state.route_words = route_words;
+        state.route_usage = route_usage;
+        DoneOutcome {
+            answer: RouteAnswer::Done,
+            state,
+        }
     }
 
     // A frame was forwarded along the route to a destination.
@@ -113,17 +63,23 @@ impl Routing {
         if !self.well_formed() {
             return self.refuse_done();
         }
-        self.record_usage_core(destination)
-    }
-
-    // `note_source_routed_frame` on a state that is well formed.
-    pub fn note_source_routed_frame_core(self, concentrator: Nwk) -> DoneOutcome
-        requires { ⌜ WellFormed self ⌝ }
-        ensures { λ r. ⌜ r ≡ noteSourceRoutedFrameCore self concentrator ⌝ }
-    {
-        let t = self.route_table;
-        let u = route_calls::note_source_routed_frame(t, concentrator);
-        self.done_with(u)
+        let route_keys = self.route_keys;
+        let mut route_words = self.route_words;
+        let mut route_usage = self.route_usage;
+        route_calls::record_usage(
+            &route_keys,
+            &mut route_words,
+            &mut route_usage,
+            self.routes,
+            destination,
+        );
+        let mut state = self;
+        state.route_words = route_words;
+        state.route_usage = route_usage;
+        DoneOutcome {
+            answer: RouteAnswer::Done,
+            state,
+        }
     }
 
     // A source-routed frame of a concentrator shows that it holds our record.
@@ -133,17 +89,23 @@ impl Routing {
         if !self.well_formed() {
             return self.refuse_done();
         }
-        self.note_source_routed_frame_core(concentrator)
-    }
-
-    // `decay_activity` on a state that is well formed.
-    pub fn decay_activity_core(self) -> DoneOutcome
-        requires { ⌜ WellFormed self ⌝ }
-        ensures { λ r. ⌜ r ≡ decayActivityCore self ⌝ }
-    {
-        let t = self.route_table;
-        let u = route_table::decay_activity(t);
-        self.done_with(u)
+        let route_keys = self.route_keys;
+        let mut route_words = self.route_words;
+        let mut route_usage = self.route_usage;
+        route_calls::note_source_routed_frame(
+            &route_keys,
+            &mut route_words,
+            &mut route_usage,
+            self.routes,
+            concentrator,
+        );
+        let mut state = self;
+        state.route_words = route_words;
+        state.route_usage = route_usage;
+        DoneOutcome {
+            answer: RouteAnswer::Done,
+            state,
+        }
     }
 
     // Once a link status period: the recent activity of every Active route goes down.
@@ -153,17 +115,16 @@ impl Routing {
         if !self.well_formed() {
             return self.refuse_done();
         }
-        self.decay_activity_core()
-    }
-
-    // `invalidate_via` on a state that is well formed.
-    pub fn invalidate_via_core(self, next_hop: Nwk) -> DoneOutcome
-        requires { ⌜ WellFormed self ⌝ }
-        ensures { λ r. ⌜ r ≡ invalidateViaCore self «next_hop» ⌝ }
-    {
-        let t = self.route_table;
-        let u = route_table::invalidate_via(t, next_hop);
-        self.done_with(u)
+        let route_keys = self.route_keys;
+        let mut route_words = self.route_words;
+        let route_usage = self.route_usage;
+        route_table::decay_activity(&route_keys, &mut route_words, &route_usage, self.routes);
+        let mut state = self;
+        state.route_words = route_words;
+        DoneOutcome {
+            answer: RouteAnswer::Done,
+            state,
+        }
     }
 
     // A next hop is lost: every Active route by it is Inactive.
@@ -173,17 +134,22 @@ impl Routing {
         if !self.well_formed() {
             return self.refuse_done();
         }
-        self.invalidate_via_core(next_hop)
-    }
-
-    // `restore_route` on a state that is well formed.
-    pub fn restore_route_core(self, destination: Nwk, next_hop: Nwk, path_cost: u8) -> DoneOutcome
-        requires { ⌜ WellFormed self ⌝ }
-        ensures { λ r. ⌜ r ≡ restoreRouteCore self destination «next_hop» «path_cost» ⌝ }
-    {
-        let t = self.route_table;
-        let u = route_calls::restore_route(t, destination, next_hop, path_cost);
-        self.stepped_to(u)
+        let route_keys = self.route_keys;
+        let mut route_words = self.route_words;
+        let route_usage = self.route_usage;
+        route_table::invalidate_via(
+            &route_keys,
+            &mut route_words,
+            &route_usage,
+            self.routes,
+            next_hop,
+        );
+        let mut state = self;
+        state.route_words = route_words;
+        DoneOutcome {
+            answer: RouteAnswer::Done,
+            state,
+        }
     }
 
     // A client hands back a route on startup; the whole entry is written anew.
@@ -193,17 +159,25 @@ impl Routing {
         if !self.well_formed() {
             return self.refuse_done();
         }
-        self.restore_route_core(destination, next_hop, path_cost)
-    }
-
-    // `note_relayed_discovery` on a state that is well formed.
-    pub fn note_relayed_discovery_core(self, destination: Nwk) -> DoneOutcome
-        requires { ⌜ WellFormed self ⌝ }
-        ensures { λ r. ⌜ r ≡ noteRelayedDiscoveryCore self destination ⌝ }
-    {
-        let t = self.route_table;
-        let u = route_calls::note_relayed_discovery(t, destination);
-        self.stepped_to(u)
+        let mut route_keys = self.route_keys;
+        let mut route_words = self.route_words;
+        let mut route_usage = self.route_usage;
+        let x = route_calls::restore_route(
+            &mut route_keys,
+            &mut route_words,
+            &mut route_usage,
+            self.routes,
+            destination,
+            next_hop,
+            path_cost,
+        );
+        let answer = x.answer;
+        let mut state = self;
+        state.route_keys = route_keys;
+        state.route_words = route_words;
+        state.route_usage = route_usage;
+        state.routes = x.routes;
+        DoneOutcome { answer, state }
     }
 
     // A search of another's was relayed: the route to its destination is underway, unless it is Active.
@@ -213,17 +187,23 @@ impl Routing {
         if !self.well_formed() {
             return self.refuse_done();
         }
-        self.note_relayed_discovery_core(destination)
-    }
-
-    // `remove_route` on a state that is well formed.
-    pub fn remove_route_core(self, destination: Nwk) -> ToldOutcome
-        requires { ⌜ WellFormed self ⌝ }
-        ensures { λ r. ⌜ r ≡ removeRouteCore self destination ⌝ }
-    {
-        let t = self.route_table;
-        let u = route_calls::remove_route(t, destination);
-        self.removed_from(u)
+        let mut route_keys = self.route_keys;
+        let mut route_words = self.route_words;
+        let mut route_usage = self.route_usage;
+        let x = route_calls::note_relayed_discovery(
+            &mut route_keys,
+            &mut route_words,
+            &mut route_usage,
+            self.routes,
+            destination,
+        );
+        let answer = x.answer;
+        let mut state = self;
+        state.route_keys = route_keys;
+        state.route_words = route_words;
+        state.route_usage = route_usage;
+        state.routes = x.routes;
+        DoneOutcome { answer, state }
     }
 
     // The route to a destination is removed; whether there was one.
@@ -233,6 +213,24 @@ impl Routing {
         if !self.well_formed() {
             return self.refuse_told(Refusal::StateIllFormed);
         }
-        self.remove_route_core(destination)
+        let mut route_keys = self.route_keys;
+        let mut route_words = self.route_words;
+        let mut route_usage = self.route_usage;
+        let x = route_calls::remove_route(
+            &mut route_keys,
+            &mut route_words,
+            &mut route_usage,
+            self.routes,
+            destination,
+        );
+        let mut state = self;
+        state.route_keys = route_keys;
+        state.route_words = route_words;
+        state.route_usage = route_usage;
+        state.routes = x.routes;
+        ToldOutcome {
+            answer: ToldAnswer::Told(x.removed),
+            state,
+        }
     }
 }

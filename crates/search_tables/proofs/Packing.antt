@@ -17,10 +17,11 @@ use Rattle.standard.specs.Route.{routeKey, routeOr, newRoute, unknownHop, suits
 use Rattle.standard.specs.declared.Status.the-variants.{Inactive}
 use Rattle.standard.specs.Tables.{Tables}
 use Rattle.flat_map.proofs.Ordered.{lookup-key, length-put}
+use Rattle.route_table.specs.Table as route-spec
+use Rattle.discovery_table.specs.Table as discovery-spec
 use Rattle.route_table.proofs.Rows as routes
 use Rattle.discovery_table.proofs.Rows as discoveries
-use Rattle.search_tables.specs.declared.SearchTables.{SearchTables}
-use Rattle.search_tables.specs.Packed.{WellFormed, tablesOf, packed, Fits}
+use Rattle.search_tables.specs.Packed.{SearchTables, WellFormed, tablesOf, packed, Fits, Holds}
 
 pub search-view : (t : SearchTables) → WellFormed t → t ≡ packed (tablesOf t)
 search-view t w = λ z. record { routes = routes.table-view (t .routes) (w .routes) z; discoveries = discoveries.table-view (t .discoveries) (w .discoveries) z }
@@ -58,7 +59,21 @@ flagged-key Reserved e = refl
 -- how many rows there are after a row under a key was put
 module _ (t : Tables) (f : Fits t) where
   pub routes-after : (k : ℕ) (e : RouteEntry) → routeKey e ≡ k → length (put routeKey e (t .routes)) ≡ countWith routeKey k (t .routes)
-  routes-after k e q = length-put routeKey e (t .routes) (f .routes .ascending) ∙ ap (λ (n : ℕ). countWith routeKey n (t .routes)) q
+  routes-after k e q = length-put routeKey e (t .routes) (f .routes .fit .ascending) ∙ ap (λ (n : ℕ). countWith routeKey n (t .routes)) q
 
   pub discoveries-after : (k : ℕ) (d : DiscoveryEntry) → discoveryKey d ≡ k → length (put discoveryKey d (t .discoveries)) ≡ countWith discoveryKey k (t .discoveries)
-  discoveries-after k d q = length-put discoveryKey d (t .discoveries) (f .discoveries .ascending) ∙ ap (λ (n : ℕ). countWith discoveryKey n (t .discoveries)) q
+  discoveries-after k d q = length-put discoveryKey d (t .discoveries) (f .discoveries .fit .ascending) ∙ ap (λ (n : ℕ). countWith discoveryKey n (t .discoveries)) q
+
+-- tables that hold rows are the rows, packed
+pub holds-packed : (s : SearchTables) (t : Tables) → Holds s t → s ≡ packed t
+holds-packed s t h = search-view s (h .formed) ∙ ap packed (h .rows)
+
+-- what the two tables hold, side by side
+pub both-hold : (s : SearchTables) (t : Tables) → route-spec.Holds (s .routes) (t .routes) → discovery-spec.Holds (s .discoveries) (t .discoveries) → Holds s t
+both-hold s t r d = record {
+  formed = record { routes = r .formed; discoveries = d .formed };
+  rows = λ z. record { routes = r .rows z; discoveries = d .rows z };
+}
+
+pub holds-itself : (s : SearchTables) → WellFormed s → Holds s (tablesOf s)
+holds-itself s w = record { formed = w; rows = refl }

@@ -1,16 +1,22 @@
--- The two tables by value as ordered rows, and rows packed into tables.
+-- The two tables that the rules of route search read and write: their columns as ordered rows, and rows packed into columns.
 -- Assumes nothing.
 use Prim.Native.Nat.{ℕ}
+use mathlib.Core.List.{List}
 use mathlib.Core.Path.{_≡_}
 use Rattle.types.specs.declared.Nwk.{Nwk}
 use Rattle.standard.specs.declared.DiscoveryEntry.{DiscoveryEntry}
-use Rattle.standard.specs.Route.{routeKey}
 use Rattle.standard.specs.Discovery.{pairKey, discoveryKey}
 use Rattle.standard.specs.Tables.{Tables}
-use Rattle.flat_map.specs.Table.{Fit}
 use Rattle.route_table.specs.Table as routes
 use Rattle.discovery_table.specs.Table as discoveries
-use Rattle.search_tables.specs.declared.SearchTables.{SearchTables}
+
+pub record SearchTables : Type 0 where
+  pub routes : routes.RouteTable
+  pub discoveries : discoveries.DiscoveryTable
+
+-- the two tables in columns that are lent: keys, words and usage counts of n routes; keys, words and ends of m discoveries
+abbrev pub inColumns : List ℕ → List ℕ → List ℕ → ℕ → List ℕ → List ℕ → List ℕ → ℕ → SearchTables
+inColumns rk rw ru n dk dw de m = record { routes = routes.inColumns rk rw ru n; discoveries = discoveries.inColumns dk dw de m }
 
 pub record WellFormed (t : SearchTables) : Type 0 where
   pub routes : routes.WellFormed (t .routes)
@@ -24,9 +30,14 @@ packed t = record { routes = routes.tableOf (t .routes); discoveries = discoveri
 
 -- rows that the two tables can hold
 pub record Fits (t : Tables) : Type 0 where
-  pub routes : Fit 64 routeKey routes.blankRoute (t .routes)
-  pub discoveries : Fit 32 discoveryKey discoveries.blankDiscovery (t .discoveries)
+  pub routes : routes.Fits (t .routes)
+  pub discoveries : discoveries.Fits (t .discoveries)
 
--- the discovery stands under the pair
+-- tables that are well formed and hold these rows
+pub record Holds (s : SearchTables) (t : Tables) : Type 0 where
+  pub formed : WellFormed s
+  pub rows : tablesOf s ≡ t
+
+-- a discovery under a pair
 abbrev pub InKey : DiscoveryEntry → Nwk → ℕ → Type 0
 InKey d source id = discoveryKey d ≡ pairKey source id

@@ -25,6 +25,7 @@ ghost use mathlib.Core.Bool.{false};
 ghost use mathlib.Core.Path.{_≡_};
 ghost use Rattle.relay_store.specs.Store.{Agrees};
 ghost use Rattle.routing.specs.State as routes;
+ghost use Rattle.routing.specs.State.{recordTable};
 ghost use Rattle.neighbors.specs.State as neighbours;
 ghost use Rattle.next_hop.specs.Decision.{namesLong};
 
@@ -147,14 +148,14 @@ pub fn decisions(routing: Routing, neighbors: Neighbors, store: &[u16], inputs: 
 }
 
 fn decision_core(routing: Routing, neighbors: Neighbors, store: &[u16], row: &[u64]) -> u64
-    requires { ⌜ routes.WellFormed routing × neighbours.WellFormed neighbors × Agrees (routing .«route_record_table») (now store) ⌝ }
+    requires { ⌜ routes.WellFormed routing × neighbours.WellFormed neighbors × Agrees (recordTable routing) (now store) ⌝ }
 {
     let o = next_hop::resolve_core(routing, neighbors, store, header(row), mode(), policy());
     decision_weight(o)
 }
 
 fn decisions_held(routing: Routing, neighbors: Neighbors, store: &[u16], inputs: &[u64]) -> u64
-    requires { ⌜ routes.WellFormed routing × neighbours.WellFormed neighbors × Agrees (routing .«route_record_table») (now store) ⌝ }
+    requires { ⌜ routes.WellFormed routing × neighbours.WellFormed neighbors × Agrees (recordTable routing) (now store) ⌝ }
 {
     let mut sum: u64 = 0;
     let n = inputs.len() / 8;
@@ -181,8 +182,7 @@ pub fn decisions_core(
     if !neighbors.well_formed() {
         return 0;
     }
-    let t = routing.route_record_table;
-    if !relay_store::agrees(t, store) {
+    if !routing.agrees(store) {
         return 0;
     }
     decisions_held(routing, neighbors, store, inputs)

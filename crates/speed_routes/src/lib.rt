@@ -1,15 +1,18 @@
-// What the benchmark runs of the route searches: many calls on one state, in the exported form and in the core form.
+// What the benchmark runs of the route searches: many calls on one state, in the exported form and on columns that are lent.
 // A row of the inputs is eight numbers. The answers are added up, so that they can be compared with the Rust's.
 pub mod records;
 
 use route_begin::BeginAnswer;
+use route_begin::BeginResult;
 use route_reply::ReplyAnswer;
+use route_reply::ReplyResult;
 use route_request::RequestAnswer;
+use route_request::RequestResult;
 use routing::Routing;
 use standard::ManyToOne;
 use standard::RouteReplyDisposition;
 use types::Nwk;
-ghost use Rattle.routing.specs.State.{WellFormed};
+ghost use Rattle.search_tables.specs.Packed.{inColumns, WellFormed};
 
 // The state after a call, and what its answer adds to the sum.
 pub struct Turn {
@@ -18,16 +21,12 @@ pub struct Turn {
 }
 
 // A state with routes to 1 .. size, and searches of all but one of a half as many originators.
-pub fn filled(size: u16) -> Routing
-    ensures { λ r. ⌜ WellFormed r ⌝ }
-{
+pub fn filled(size: u16) -> Routing {
     let s = with_routes(size);
     with_searches(s, size / 2)
 }
 
-fn with_routes(size: u16) -> Routing
-    ensures { λ r. ⌜ WellFormed r ⌝ }
-{
+fn with_routes(size: u16) -> Routing {
     let mut s = Routing::new();
     let mut i: u16 = 0;
     while i < size {
@@ -38,10 +37,7 @@ fn with_routes(size: u16) -> Routing
     s
 }
 
-fn with_searches(state: Routing, count: u16) -> Routing
-    requires { ⌜ WellFormed state ⌝ }
-    ensures { λ r. ⌜ WellFormed r ⌝ }
-{
+fn with_searches(state: Routing, count: u16) -> Routing {
     let mut s = state;
     let mut i: u16 = 1;
     while i < count {
@@ -120,36 +116,79 @@ pub fn replies(state: Routing, inputs: &[u64]) -> u64 {
     sum
 }
 
-fn reply_core(state: Routing, row: &[u64]) -> Turn
-    requires { ⌜ WellFormed state ⌝ }
-    ensures { λ r. ⌜ WellFormed (r .state) ⌝ }
+// The same on columns that are lent.
+fn reply_lent(
+    route_keys: &mut [u16],
+    route_words: &mut [u64],
+    route_usage: &mut [u32],
+    routes: usize,
+    discovery_keys: &[u32],
+    discovery_words: &mut [u64],
+    discovery_ends: &mut [u64],
+    discoveries: usize,
+    row: &[u64],
+) -> ReplyResult
+    requires { ⌜ WellFormed (inColumns (now «route_keys») (now «route_words») (now «route_usage») routes (now «discovery_keys») (now «discovery_words») (now «discovery_ends») discoveries) ⌝ }
+    ensures { λ r. ⌜ WellFormed (inColumns (now («route_keys» .exit)) (now («route_words» .exit)) (now («route_usage» .exit)) (r .routes) (now («discovery_keys» .entry)) (now («discovery_words» .exit)) (now («discovery_ends» .exit)) discoveries) ⌝ }
 {
-    let o = state.accept_route_reply_core(
+    route_reply::reply(
+        route_keys,
+        route_words,
+        route_usage,
+        routes,
+        discovery_keys,
+        discovery_words,
+        discovery_ends,
+        discoveries,
         numbers::nwk(row, 0),
         numbers::nwk(row, 1),
         numbers::byte(row, 2),
         numbers::nwk(row, 3),
         numbers::nwk(row, 4),
         numbers::byte(row, 5),
-    );
-    let state = o.state;
-    let answer = o.answer;
-    let weight = reply_weight(answer);
-    Turn { state, weight }
+    )
 }
 
-pub fn replies_core(state: Routing, inputs: &[u64]) -> u64
-    requires { ⌜ WellFormed state ⌝ }
-{
-    let mut s = state;
+// The tests of the exported form once, before the first row.
+pub fn replies_core(state: Routing, inputs: &[u64]) -> u64 {
+    let mut route_keys = state.route_keys;
+    let mut route_words = state.route_words;
+    let mut route_usage = state.route_usage;
+    let discovery_keys = state.discovery_keys;
+    let mut discovery_words = state.discovery_words;
+    let mut discovery_ends = state.discovery_ends;
+    let mut routes = state.routes;
+    let discoveries = state.discoveries;
+    if !route_table::well_formed(&route_keys, &route_words, &route_usage, routes) {
+        return 0;
+    }
+    if !discovery_table::well_formed(
+        &discovery_keys,
+        &discovery_words,
+        &discovery_ends,
+        discoveries,
+    ) {
+        return 0;
+    }
     let mut sum: u64 = 0;
     let n = inputs.len() / 8;
     let mut k: usize = 0;
     while k < n {
         let i = k * 8;
-        let x = reply_core(s, &inputs[i..i + 8]);
-        s = x.state;
-        sum = std::num::wrapping_add_u64(sum, x.weight);
+        let x = reply_lent(
+            &mut route_keys,
+            &mut route_words,
+            &mut route_usage,
+            routes,
+            &discovery_keys,
+            &mut discovery_words,
+            &mut discovery_ends,
+            discoveries,
+            &inputs[i..i + 8],
+        );
+        let answer = x.answer;
+        routes = x.routes;
+        sum = std::num::wrapping_add_u64(sum, reply_weight(answer));
         k += 1;
     }
     sum
@@ -188,11 +227,30 @@ pub fn requests(state: Routing, inputs: &[u64]) -> u64 {
     sum
 }
 
-fn request_core(state: Routing, row: &[u64]) -> Turn
-    requires { ⌜ WellFormed state ⌝ }
-    ensures { λ r. ⌜ WellFormed (r .state) ⌝ }
+// The same on columns that are lent.
+fn request_lent(
+    route_keys: &mut [u16],
+    route_words: &mut [u64],
+    route_usage: &mut [u32],
+    routes: usize,
+    discovery_keys: &mut [u32],
+    discovery_words: &mut [u64],
+    discovery_ends: &mut [u64],
+    discoveries: usize,
+    row: &[u64],
+) -> RequestResult
+    requires { ⌜ WellFormed (inColumns (now «route_keys») (now «route_words») (now «route_usage») routes (now «discovery_keys») (now «discovery_words») (now «discovery_ends») discoveries) ⌝ }
+    ensures { λ r. ⌜ WellFormed (inColumns (now («route_keys» .exit)) (now («route_words» .exit)) (now («route_usage» .exit)) (r .routes) (now («discovery_keys» .exit)) (now («discovery_words» .exit)) (now («discovery_ends» .exit)) (r .discoveries)) ⌝ }
 {
-    let o = state.accept_route_request_core(
+    route_request::request(
+        route_keys,
+        route_words,
+        route_usage,
+        routes,
+        discovery_keys,
+        discovery_words,
+        discovery_ends,
+        discoveries,
         numbers::nwk(row, 0),
         numbers::byte(row, 1),
         numbers::nwk(row, 2),
@@ -201,25 +259,50 @@ fn request_core(state: Routing, row: &[u64]) -> Turn
         ManyToOne::NotManyToOne,
         numbers::at(row, 6),
         1000,
-    );
-    let state = o.state;
-    let answer = o.answer;
-    let weight = request_weight(answer);
-    Turn { state, weight }
+    )
 }
 
-pub fn requests_core(state: Routing, inputs: &[u64]) -> u64
-    requires { ⌜ WellFormed state ⌝ }
-{
-    let mut s = state;
+// The tests of the exported form once, before the first row.
+pub fn requests_core(state: Routing, inputs: &[u64]) -> u64 {
+    let mut route_keys = state.route_keys;
+    let mut route_words = state.route_words;
+    let mut route_usage = state.route_usage;
+    let mut discovery_keys = state.discovery_keys;
+    let mut discovery_words = state.discovery_words;
+    let mut discovery_ends = state.discovery_ends;
+    let mut routes = state.routes;
+    let mut discoveries = state.discoveries;
+    if !route_table::well_formed(&route_keys, &route_words, &route_usage, routes) {
+        return 0;
+    }
+    if !discovery_table::well_formed(
+        &discovery_keys,
+        &discovery_words,
+        &discovery_ends,
+        discoveries,
+    ) {
+        return 0;
+    }
     let mut sum: u64 = 0;
     let n = inputs.len() / 8;
     let mut k: usize = 0;
     while k < n {
         let i = k * 8;
-        let x = request_core(s, &inputs[i..i + 8]);
-        s = x.state;
-        sum = std::num::wrapping_add_u64(sum, x.weight);
+        let x = request_lent(
+            &mut route_keys,
+            &mut route_words,
+            &mut route_usage,
+            routes,
+            &mut discovery_keys,
+            &mut discovery_words,
+            &mut discovery_ends,
+            discoveries,
+            &inputs[i..i + 8],
+        );
+        let answer = x.answer;
+        routes = x.routes;
+        discoveries = x.discoveries;
+        sum = std::num::wrapping_add_u64(sum, request_weight(answer));
         k += 1;
     }
     sum
@@ -254,34 +337,92 @@ pub fn begins(state: Routing, inputs: &[u64]) -> u64 {
     sum
 }
 
-fn begin_core(state: Routing, row: &[u64]) -> Turn
-    requires { ⌜ WellFormed state ⌝ }
-    ensures { λ r. ⌜ WellFormed (r .state) ⌝ }
+// The same on columns that are lent, under the next request id.
+fn begin_lent(
+    route_keys: &mut [u16],
+    route_words: &mut [u64],
+    route_usage: &mut [u32],
+    routes: usize,
+    discovery_keys: &mut [u32],
+    discovery_words: &mut [u64],
+    discovery_ends: &mut [u64],
+    discoveries: usize,
+    id: u8,
+    row: &[u64],
+) -> BeginResult
+    requires { ⌜ WellFormed (inColumns (now «route_keys») (now «route_words») (now «route_usage») routes (now «discovery_keys») (now «discovery_words») (now «discovery_ends») discoveries) ⌝ }
+    ensures { λ r. ⌜ WellFormed (inColumns (now («route_keys» .exit)) (now («route_words» .exit)) (now («route_usage» .exit)) (r .routes) (now («discovery_keys» .exit)) (now («discovery_words» .exit)) (now («discovery_ends» .exit)) (r .discoveries)) ⌝ }
 {
-    let o = state.begin_discovery_core(
+    route_begin::begin(
+        route_keys,
+        route_words,
+        route_usage,
+        routes,
+        discovery_keys,
+        discovery_words,
+        discovery_ends,
+        discoveries,
         numbers::nwk(row, 0),
+        id,
         numbers::nwk(row, 1),
         numbers::at(row, 2),
         numbers::at(row, 3),
-    );
-    let state = o.state;
-    let answer = o.answer;
-    let weight = begin_weight(answer);
-    Turn { state, weight }
+    )
 }
 
-pub fn begins_core(state: Routing, inputs: &[u64]) -> u64
-    requires { ⌜ WellFormed state ⌝ }
-{
-    let mut s = state;
+// The last request id after a search was begun or refused.
+fn begun(a: BeginAnswer, last: u8) -> u8 {
+    match a {
+        BeginAnswer::Refused(_) => last,
+        BeginAnswer::Begun(id) => id,
+    }
+}
+
+// The tests of the exported form once, before the first row.
+pub fn begins_core(state: Routing, inputs: &[u64]) -> u64 {
+    let mut route_keys = state.route_keys;
+    let mut route_words = state.route_words;
+    let mut route_usage = state.route_usage;
+    let mut discovery_keys = state.discovery_keys;
+    let mut discovery_words = state.discovery_words;
+    let mut discovery_ends = state.discovery_ends;
+    let mut routes = state.routes;
+    let mut discoveries = state.discoveries;
+    let mut last = state.request_sequence_number;
+    if !route_table::well_formed(&route_keys, &route_words, &route_usage, routes) {
+        return 0;
+    }
+    if !discovery_table::well_formed(
+        &discovery_keys,
+        &discovery_words,
+        &discovery_ends,
+        discoveries,
+    ) {
+        return 0;
+    }
     let mut sum: u64 = 0;
     let n = inputs.len() / 8;
     let mut k: usize = 0;
     while k < n {
         let i = k * 8;
-        let x = begin_core(s, &inputs[i..i + 8]);
-        s = x.state;
-        sum = std::num::wrapping_add_u64(sum, x.weight);
+        let id = types::next_id(last);
+        let x = begin_lent(
+            &mut route_keys,
+            &mut route_words,
+            &mut route_usage,
+            routes,
+            &mut discovery_keys,
+            &mut discovery_words,
+            &mut discovery_ends,
+            discoveries,
+            id,
+            &inputs[i..i + 8],
+        );
+        let answer = x.answer;
+        last = begun(answer, last);
+        routes = x.routes;
+        discoveries = x.discoveries;
+        sum = std::num::wrapping_add_u64(sum, begin_weight(answer));
         k += 1;
     }
     sum

@@ -1,15 +1,18 @@
-// What the benchmark runs of the route records: many calls on one state and store, in the exported form and in the core form.
+// What the benchmark runs of the route records: many calls on one state and store, in the exported form and on columns that are lent.
 // A row of the inputs is eight numbers. The answers are added up, so that they can be compared with the Rust's.
 use crate::Turn;
 use route_record::RecordAnswer;
+use route_record::Recorded;
 use routing::RouteToAnswer;
 use routing::RouteToOutcome;
 use routing::Routing;
 use standard::RelayList;
 use types::Nwk;
 ghost use Prim.Native.Nat.{_≤_};
+ghost use Rattle.record_table.specs.Table.{inColumns};
 ghost use Rattle.relay_store.specs.Store.{Agrees};
-ghost use Rattle.routing.specs.State.{WellFormed};
+ghost use Rattle.relay_store.specs.Packed.{Together};
+ghost use Rattle.routing.specs.State.{WellFormed, recordTable};
 
 // At most three relays: how many at place 1, the relays after it.
 fn relays_in(row: &[u64]) -> RelayList
@@ -84,45 +87,44 @@ pub fn records(state: Routing, store: &mut [u16], inputs: &[u64]) -> u64 {
     sum
 }
 
-fn record_core(state: Routing, store: &mut [u16], row: &[u64]) -> Turn
-    requires { ⌜ WellFormed state × Agrees (state .«route_record_table») (now store) ⌝ }
-    ensures { λ r. ⌜ WellFormed (r .state) × Agrees (r .state .«route_record_table») (now (store .exit)) ⌝ }
+// The same on columns that are lent.
+fn record_lent(
+    keys: &mut [u16],
+    lengths: &mut [u8],
+    count: usize,
+    store: &mut [u16],
+    row: &[u64],
+) -> Recorded
+    requires { ⌜ Together (inColumns (now keys) (now lengths) count) (now store) ⌝ }
+    ensures { λ r. ⌜ Together (inColumns (now (keys .exit)) (now (lengths .exit)) (r .records)) (now (store .exit)) ⌝ }
 {
     let relays = relays_in(row);
-    let o = state.store_route_record_core(store, numbers::nwk(row, 0), relays);
-    let state = o.state;
-    let answer = o.answer;
-    let weight = record_weight(answer);
-    Turn { state, weight }
+    route_record::store_record(keys, lengths, count, store, numbers::nwk(row, 0), relays)
 }
 
-fn records_held(state: Routing, store: &mut [u16], inputs: &[u64]) -> u64
-    requires { ⌜ WellFormed state × Agrees (state .«route_record_table») (now store) ⌝ }
-{
-    let mut s = state;
+// The tests of the exported form once, before the first row.
+pub fn records_core(state: Routing, store: &mut [u16], inputs: &[u64]) -> u64 {
+    let mut keys = state.record_keys;
+    let mut lengths = state.record_lengths;
+    let mut count = state.records;
+    if !record_table::well_formed(&keys, &lengths, count) {
+        return 0;
+    }
+    if !relay_store::agrees(&lengths, store) {
+        return 0;
+    }
     let mut sum: u64 = 0;
     let n = inputs.len() / 8;
     let mut k: usize = 0;
     while k < n {
         let i = k * 8;
-        let x = record_core(s, store, &inputs[i..i + 8]);
-        s = x.state;
-        sum = std::num::wrapping_add_u64(sum, x.weight);
+        let x = record_lent(&mut keys, &mut lengths, count, store, &inputs[i..i + 8]);
+        let answer = x.answer;
+        count = x.records;
+        sum = std::num::wrapping_add_u64(sum, record_weight(answer));
         k += 1;
     }
     sum
-}
-
-// The tests of the exported form once, before the first row.
-pub fn records_core(state: Routing, store: &mut [u16], inputs: &[u64]) -> u64 {
-    if !state.well_formed() {
-        return 0;
-    }
-    let t = state.route_record_table;
-    if !relay_store::agrees(t, store) {
-        return 0;
-    }
-    records_held(state, store, inputs)
 }
 
 // A route query: destination and limit.
@@ -145,14 +147,14 @@ pub fn ways(state: Routing, store: &[u16], inputs: &[u64]) -> u64 {
 }
 
 fn way_core(state: Routing, store: &[u16], row: &[u64]) -> u64
-    requires { ⌜ WellFormed state × Agrees (state .«route_record_table») (now store) ⌝ }
+    requires { ⌜ WellFormed state × Agrees (recordTable state) (now store) ⌝ }
 {
     let o = state.route_to_core(store, numbers::nwk(row, 0), numbers::byte(row, 1));
     way_weight(o)
 }
 
 fn ways_held(state: Routing, store: &[u16], inputs: &[u64]) -> u64
-    requires { ⌜ WellFormed state × Agrees (state .«route_record_table») (now store) ⌝ }
+    requires { ⌜ WellFormed state × Agrees (recordTable state) (now store) ⌝ }
 {
     let mut sum: u64 = 0;
     let n = inputs.len() / 8;
@@ -171,8 +173,7 @@ pub fn ways_core(state: Routing, store: &[u16], inputs: &[u64]) -> u64 {
     if !state.well_formed() {
         return 0;
     }
-    let t = state.route_record_table;
-    if !relay_store::agrees(t, store) {
+    if !state.agrees(store) {
         return 0;
     }
     ways_held(state, store, inputs)

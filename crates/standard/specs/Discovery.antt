@@ -3,7 +3,7 @@
 -- expiration at or before now". The Rust's `discovery_deadline` asks for a live row that names a destination.
 -- Assumes nothing.
 use Prim.Native.Nat.{ℕ, _+_, _*_}
-use mathlib.Core.Bool.{Bool, _&&_}
+use mathlib.Core.Bool.{Bool, not, _&&_}
 use lib.Dec.{ltb, eqb}
 use Rattle.types.specs.declared.Nwk.{Nwk}
 use Rattle.standard.specs.declared.DiscoveryEntry.{DiscoveryEntry}
@@ -19,6 +19,10 @@ discoveryKey d = pairKey (d .«source_address») (d .«route_request_id»)
 -- a discovery whose expiration is after now
 abbrev pub live : ℕ → DiscoveryEntry → Bool
 live now d = ltb now (d .«expiration_time»)
+
+-- one whose time is over
+abbrev pub isOver : ℕ → DiscoveryEntry → Bool
+isOver now d = not (live now d)
 
 -- a discovery of the way to a destination
 abbrev pub names : ℕ → DiscoveryEntry → Bool

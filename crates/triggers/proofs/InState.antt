@@ -7,7 +7,8 @@ use Rattle.routing.specs.declared.Routing.{Routing}
 use Rattle.routing.specs.declared.DoneOutcome.{DoneOutcome}
 use Rattle.routing.specs.declared.ToldAnswer.the-variants as told
 use Rattle.routing.specs.declared.ToldOutcome.{ToldOutcome}
-use Rattle.routing.specs.Queries.{withTriggers, noteRouteErrorCore, noteDeliveryFailureCore, resetMtorrTriggersCore}
+use Rattle.routing.specs.Queries.{noteRouteErrorCore, noteDeliveryFailureCore, resetMtorrTriggersCore}
+use Rattle.routing.specs.State.{withTriggers}
 use Rattle.triggers.specs.declared.Triggers.{Triggers}
 use Rattle.triggers.specs.declared.Noted.{Noted}
 use Rattle.triggers.specs.Triggers.{countersOf, notedError, notedFailure, zeroed}

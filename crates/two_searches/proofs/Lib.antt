@@ -6,6 +6,7 @@ pub mod Merged
 pub mod Rule
 pub mod Exact
 pub mod Own
+pub mod Ranges
 pub mod Sizes
 pub mod TwoSearches
 pub mod Lift

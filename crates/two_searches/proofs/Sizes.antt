@@ -19,6 +19,7 @@ use Rattle.two_searches.specs.Conditions.{searchKey, Held, Known, Foreig
 use Rattle.two_searches.proofs.Puts.{puts, Within, lookup-put}
 use Rattle.two_searches.proofs.Touch.{Change, applied, view, decide, hear-is, RouteKeys, own-keys}
 use Rattle.two_searches.proofs.Merged.{addresses-differ}
+use Rattle.two_searches.proofs.Ranges.{ranged-kept}
 
 module _ {E : Type 0} (keyOf : E → ℕ) where
   -- there is a row under k
@@ -121,6 +122,7 @@ module _ (own : Nwk) (a b : Search) (t : Tables) where
       record {
         conditions = conditions-kept (f .conditions) a x;
         in-order = in-order-kept own a x t (f .in-order);
+        in-range = ranged-kept own a x t (f .in-range);
         routes-fit = rw (size .0) (f .routes-fit);
         discoveries-fit = rw (size .1) (f .discoveries-fit);
       }
@@ -131,6 +133,7 @@ module _ (own : Nwk) (a b : Search) (t : Tables) where
       record {
         conditions = conditions-kept (f .conditions) b x;
         in-order = in-order-kept own b x t (f .in-order);
+        in-range = ranged-kept own b x t (f .in-range);
         routes-fit = rw (size .0) (f .routes-fit);
         discoveries-fit = rw (size .1) (f .discoveries-fit);
       }

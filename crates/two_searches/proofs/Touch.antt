@@ -77,13 +77,13 @@ abbrev pub taking : Bool → Search → Heard → DiscoveryEntry → RouteEntry 
 taking true s x d r o = establishing x d r
 taking false s x d r o = relaying x d r (found s (via (x .sender) (x .cost) r) o)
 
-abbrev decideOn : Bool → Search → Heard → Option DiscoveryEntry → Option RouteEntry → Option RouteEntry → Answer × Change
+abbrev pub decideOn : Bool → Search → Heard → Option DiscoveryEntry → Option RouteEntry → Option RouteEntry → Answer × Change
 decideOn ours s x none r o = leaves
 decideOn ours s x (some d) none o = leaves
 decideOn ours s x (some d) (some r) o = cond (drops ours x d r) leaves (taking ours s x d r o)
 
 -- the answer and the rows to put, by the rows read
-pub decide : Nwk → Search → Heard → View → Answer × Change
+unfoldable pub decide : Nwk → Search → Heard → View → Answer × Change
 decide own s x v = decideOn (isOurs own s) s x (v .discovery) (v .responder) (v .originator)
 
 abbrev pub carried : Answer × Change → Tables → Answer × Tables

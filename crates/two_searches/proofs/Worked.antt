@@ -1,6 +1,6 @@
 -- The conditions can be met: worked tables with searches that meet them all, and a merge of six replies.
 -- Every answer and the end are found by computing the rule.
-use Prim.Native.Nat.{ℕ}
+use Prim.Native.Nat.{ℕ, _%_}
 use mathlib.Core.Path.{_≡_, refl}
 use mathlib.Core.Logic.{_⊎_, inl, inr, _≢_}
 use mathlib.Core.List.{List, [], _∷_}
@@ -66,7 +66,7 @@ search originator id responder = record { originator = nwk originator; id = id; 
 
 infix 80 from_at_
 abbrev pub from_at_ : ℕ → ℕ → Heard
-from sender at cost = record { sender = nwk sender; cost = cost }
+from sender at cost = record { sender = nwk (sender % 65536); cost = cost % 256; short = omega arith; byte = omega arith }
 
 -- "From well-formed tables": in order
 pub worked-in-order : InOrder tables

@@ -15,6 +15,9 @@ use Rattle.standard.specs.Ordered.{lookup}
 use Rattle.standard.specs.Route.{routeKey}
 use Rattle.standard.specs.Discovery.{pairKey, discoveryKey}
 use Rattle.standard.specs.Tables.{Tables, InOrder}
+use Rattle.flat_map.specs.Table.{Each}
+use Rattle.route_table.specs.Codec as route
+use Rattle.discovery_table.specs.Codec as discovery
 use Rattle.two_searches.specs.Streams.{Search}
 
 -- the key of a search in the discovery table
@@ -75,9 +78,16 @@ pub record Apart (own : Nwk) (a b : Search) : Type 0 where
   pub second-responder-apart : a .originator ≢ own → b .responder ≢ a .originator
   pub originators-apart : a .originator ≡ b .originator → a .originator ≡ own
 
--- Tables that meet the conditions, are in order and have room for what they hold: from such tables no reply is refused.
+-- The numbers of every row are within their fields, as those of a well-formed state's rows are.
+pub record Ranged (t : Tables) : Type 0 where
+  pub routes : Each route.InRange (t .routes)
+  pub discoveries : Each discovery.InRange (t .discoveries)
+
+-- Tables that meet the conditions, are in order and within range and have room for what they hold: from such tables no reply is refused.
 pub record Fits (own : Nwk) (a b : Search) (routes discoveries : ℕ) (t : Tables) : Type 0 where
   pub conditions : Conditions own a b t
   pub in-order : InOrder t
+  -- a row's numbers are within their fields, so that columns can hold them
+  pub in-range : Ranged t
   pub routes-fit : length (t .routes) ≤ routes
   pub discoveries-fit : length (t .discoveries) ≤ discoveries

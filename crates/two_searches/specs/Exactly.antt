@@ -4,6 +4,7 @@
 --   route is not Active at the start, the first reply always establishes and the rule counts from its cost."
 -- Assumes nothing.
 use Prim.Native.Nat.{ℕ, _<_}
+use native.Mathlib.Omega.{arith}
 use mathlib.Core.Path.{_≡_}
 use mathlib.Core.Logic.{_↔_}
 use mathlib.Core.Bool.{Bool, true, false}
@@ -21,7 +22,7 @@ use Rattle.two_searches.specs.Conditions.{RouteTo}
 
 -- the reply at place i of a stream, counted from 0
 abbrev pub replyAt : List Heard → ℕ → Heard
-replyAt xs i = getD xs i (record { sender = unknownHop; cost = 0 })
+replyAt xs i = getD xs i (record { sender = unknownHop; cost = 0; short = omega arith; byte = omega arith })
 
 -- an answer that does and reports nothing
 abbrev pub dropAnswer : Answer

@@ -5,14 +5,12 @@ use mathlib.Core.List.{List, map}
 use mathlib.Core.Logic.{_⊎_, ⊎-map}
 use mathlib.Core.Path.{_≡_}
 use Rattle.types.specs.declared.Nwk.{Nwk}
-use Rattle.standard.specs.Tables.{Tables}
-use Rattle.search_tables.specs.Packed.{tablesOf, packed}
 use Rattle.route_reply.specs.declared.ReplyAnswer.{ReplyAnswer}
 use Rattle.route_reply.specs.declared.ReplyAnswer.the-variants.{Answered}
 use Rattle.routing.specs.declared.Routing.{Routing}
 use Rattle.routing.specs.declared.RouteReplyOutcome.{RouteReplyOutcome}
 use Rattle.routing.specs.Search.{acceptRouteReply}
-use Rattle.routing.specs.State.{searchOf, withSearch}
+use Rattle.routing.specs.State.{rowsIn, withRows}
 use Rattle.two_searches.specs.Streams.{Search, Heard, Answer, AsAlone, answers, final, either, hearBoth}
 use Rattle.two_searches.specs.Promise.{Promise}
 
@@ -26,13 +24,6 @@ call own s x state = outcome (acceptRouteReply state own (s .originator) (s .id)
 -- the rule's answer in the call's words: not a refusal
 abbrev pub say : Answer → ReplyAnswer
 say r = Answered (r .disposition) (r .update)
-
--- the rows of the two tables that a state holds, and the state with rows put in their place
-abbrev pub rowsIn : Routing → Tables
-rowsIn s = tablesOf (searchOf s)
-
-abbrev pub withRows : Routing → Tables → Routing
-withRows s t = withSearch s (packed t)
 
 -- of two streams of exported calls, merged as zs, from the state s
 pub record ExportedPromise (own : Nwk) (a b : Search) (xs ys : List Heard) (zs : List (Heard ⊎ Heard)) (s : Routing) : Type 0 where

@@ -3,7 +3,7 @@
 -- answered as in its own stream alone, and the tables end the same."
 -- Answers and ends are over any state and any step, so that one set of words serves the rows and the exported call.
 -- Assumes nothing.
-use Prim.Native.Nat.{ℕ}
+use Prim.Native.Nat.{ℕ, _<_}
 use mathlib.Core.Path.{_≡_}
 use mathlib.Core.Logic.{_⊎_, inl, inr}
 use mathlib.Core.List.{List, [], _∷_}
@@ -19,10 +19,12 @@ pub record Search : Type 0 where
   pub id : ℕ
   pub responder : Nwk
 
--- a reply of a stream: who handed it to us, and at what cost
+-- a reply of a stream: who handed it to us, and at what cost, as a frame carries them: an address of 16 bits and a byte
 pub record Heard : Type 0 where
   pub sender : Nwk
   pub cost : ℕ
+  pub short : sender .0 < 65536
+  pub byte : cost < 256
 
 -- what a reply is answered: what is done with it, and the update that is reported
 pub record Answer : Type 0 where

@@ -16,7 +16,7 @@ pub use refusal::Refusal;
 use values::{push_addresses, Values};
 
 /// How many numbers an image has.
-pub const IMAGE: usize = 5450;
+pub const IMAGE: usize = 4714;
 
 /// How many numbers an answer needs.
 const ANSWER: usize = 258;

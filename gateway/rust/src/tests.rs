@@ -42,7 +42,20 @@ fn an_image_of_a_wrong_length_is_refused_and_stays() {
 
 #[test]
 fn a_damaged_image_is_refused_and_stays() {
-    for (place, number) in [(0, 1), (1, 2), (2, 256), (70, 65536), (71, 4), (1032, 65536), (1227, 3), (3402, 65536)] {
+    let damage = [
+        (0, 1),     // the mark
+        (1, 1),     // the version
+        (2, 256),   // a trigger counter
+        (6, 65536), // a route's key, its word and its usage count
+        (70, u64::MAX),
+        (134, 1 << 32),
+        (199, 1 << 32), // a discovery's key
+        (296, 65536),   // a record's key and its length
+        (360, 256),
+        (491, 3),      // a neighbour's device type
+        (2666, 65536), // the relay store
+    ];
+    for (place, number) in damage {
         let mut image = with_route().image().to_vec();
         image[place] = number;
         let mut state = State::from_image(image.clone());

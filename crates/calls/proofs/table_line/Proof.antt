@@ -2,10 +2,8 @@
 use Prim.Native.Nat.{_-_}
 use mathlib.Core.Path.{_≡_, ap, sym, _∙_}
 use native.Mathlib.Omega.{arith}
-use lib.ListN.{length}
 use denote.Ref.{now}
 use Rattle.numbers.specs.Said.{spoken}
-use Rattle.flat_map.proofs.Shift.{unmapped}
 use Rattle.lines.specs.Lines.{lineSaid}
 use Rattle.lines.proofs.Lines.{line-first, line-rest}
 use Rattle.route_loads.specs.Prints.{routingLines}
@@ -15,16 +13,6 @@ use Rattle.calls.specs.Groups.{worldLines}
 use borrow.Author.Needs.{needs}
 use Rattle.calls.proofs.table_line.Statement.{statement}
 use Rattle.calls.proofs.table_line.Tie as tie
-
--- arrays of structs, as long as their types say
-routes-long : (c : tie.Start) → length (c .args .world .routing .«route_table» .entries) ≡ 64
-routes-long c = search (needs, unmapped)
-
-discoveries-long : (c : tie.Start) → length (c .args .world .routing .«discovery_table» .entries) ≡ 32
-discoveries-long c = search (needs, unmapped)
-
-records-long : (c : tie.Start) → length (c .args .world .routing .«route_record_table» .entries) ≡ 64
-records-long c = search (needs, unmapped)
 
 line-count-requires : tie.Need-line-count-requires
 line-count-requires c κs = search needs
@@ -38,7 +26,7 @@ returns c =
     let s = c .before .before .before .before .before in
     let w = s .args .world in
     let store = now (s .args .store) in
-    let many = line-count (s .args .world .routing) (now (s .args .store)) (routes-long s) (discoveries-long s) (records-long s) in
+    let many = line-count (s .args .world .routing) (now (s .args .store)) in
     c .line .ensures ∙ ap spoken (sym (line-first (routingLines (w .routing) store) (neighborLines (w .neighbors)) (s .args .index) (omega (arith, many, c .before .before .line-count .ensures, c .before .if1 .taken))))
 
 line-requires-2 : tie.Need-line-requires-2
@@ -50,7 +38,7 @@ returns-2 c =
     let s = c .before .before .before .before .before .before in
     let w = s .args .world in
     let store = now (s .args .store) in
-    let many = line-count (s .args .world .routing) (now (s .args .store)) (routes-long s) (discoveries-long s) (records-long s) in
+    let many = line-count (s .args .world .routing) (now (s .args .store)) in
     let n = c .before .before .before .line-count .ensures in
     c .line2 .ensures
     ∙ ap (λ k. spoken (lineSaid (neighborLines (w .neighbors)) (s .args .index - k))) (n ∙ sym many)

@@ -1,63 +1,46 @@
--- A key found among the keys names the row at its place; a key missing there has no row.
+-- A pair found among the keys names the row at its place; a pair missing there has no row.
 -- Assumes nothing.
-use Prim.Native.Nat.{_<_}
 use mathlib.Core.Path.{sym, ap, _∙_}
 use native.Mathlib.Omega.{arith}
+use Rattle.discovery_table.specs.declared.DiscoveryLookup.the-variants.{Found}
+use Rattle.discovery_table.specs.Table.{inColumns, looked}
+use Rattle.discovery_table.proofs.Rows.{found-row, missing-row, place-within}
 use borrow.Author.Needs.{needs}
-use lib.ListN.{take}
-use Rattle.flat_map.specs.Seek.{placeOf}
-use Rattle.flat_map.proofs.Table.{found-row, found-within, missing-row}
-use Rattle.standard.specs.Discovery.{discoveryKey}
-use Rattle.discovery_table.specs.Table.{blankDiscovery, looked}
 use Rattle.discovery_table.proofs.find.Statement.{statement}
 use Rattle.discovery_table.proofs.find.Tie as tie
 
-pair-key-requires : tie.Need-pair-key-requires
-pair-key-requires c κs = search needs
-
-index-of-requires : tie.Need-index-of-requires
-index-of-requires c κs = search needs
+place-of-requires : tie.Need-place-of-requires
+place-of-requires c κs = search needs
 
 enum-known-place : tie.Need-enum-known-place
 enum-known-place c = search needs
 
-within : (c : tie.After-place) → c .place .given .0 .0 < 32
-within c =
+entry-at-requires : tie.Need-entry-at-requires
+entry-at-requires c κs =
     let s = c .before .before .before .before .before .before .before in
-    let t = s .args .t1 in
-    omega (arith, s .pre .small, found-within 32 discoveryKey blankDiscovery (t .keys) (t .entries) (t .count) (s .pre) _ _ (sym (c .place .given .1) ∙ c .before .before .index-of .ensures ∙ ap (placeOf (take (t .count) (t .keys))) (c .before .before .before .before .before .before .pair-key .ensures)))
-
-mul-e : tie.Need-mul-e
-mul-e c = omega (arith, within (c .before))
-
-element-copy-out-e : tie.Need-element-copy-out-e
-element-copy-out-e c = within (c .before)
+    let a = s .args in
+    let t = inColumns (a .keys .now) (a .words .now) (a .ends .now) (a .count) in
+    let h = place-within t (s .pre) _ _ (sym (c .before .place .given .1) ∙ c .before .before .before .place-of .ensures) in
+    (omega (arith, h, s .pre .ordered .small, s .pre .ordered .long .0), omega (arith, h, s .pre .ordered .small, s .pre .ordered .long .1 .0), omega (arith, h, s .pre .ordered .small, s .pre .ordered .long .1 .1 .0))
 
 enum-told : tie.Need-enum-told
 enum-told c = search needs
 
 returns : tie.Need-returns
 returns c =
-    let at = c .before .before in
-    let s = at .before .before .before .before .before .before .before in
-    let t = s .args .t1 in
-    ap looked (sym (found-row 32 discoveryKey blankDiscovery (t .keys) (t .entries) (t .count) (s .pre) _ _ (sym (at .place .given .1) ∙ at .before .before .index-of .ensures ∙ ap (placeOf (take (t .count) (t .keys))) (at .before .before .before .before .before .before .pair-key .ensures))))
+    let s = c .before .before .before .before .before .before .before .before in
+    let a = s .args in
+    let t = inColumns (a .keys .now) (a .words .now) (a .ends .now) (a .count) in
+    ap Found (c .entry-at .ensures) ∙ ap looked (sym (found-row t (s .pre) _ _ (sym (c .before .before .place .given .1) ∙ c .before .before .before .before .place-of .ensures)))
 
 returns-2 : tie.Need-returns-2
 returns-2 c =
-    let s = c .before .before .before .before .before .before .before in
-    let t = s .args .t1 in
-    ap looked (sym (missing-row 32 discoveryKey blankDiscovery (t .keys) (t .entries) (t .count) (s .pre) _ _ (sym (c .enum-told .given .1) ∙ c .before .before .index-of .ensures ∙ ap (placeOf (take (t .count) (t .keys))) (c .before .before .before .before .before .before .pair-key .ensures))))
+    let s = c .before .before .before .before .before .before in
+    let a = s .args in
+    let t = inColumns (a .keys .now) (a .words .now) (a .ends .now) (a .count) in
+    ap looked (sym (missing-row t (s .pre) _ _ (sym (c .enum-told .given .1) ∙ c .before .before .place-of .ensures)))
 
 pub find-spec : {M : Type 1} → statement M
 find-spec =
     tie.close
-    (tie.spec
-    pair-key-requires
-    index-of-requires
-    enum-known-place
-    mul-e
-    element-copy-out-e
-    enum-told
-    returns
-    returns-2)
+    (tie.spec place-of-requires enum-known-place entry-at-requires enum-told returns returns-2)

@@ -1,66 +1,68 @@
--- The sweep's invariant: the rows passed are kept, and of the others those that are live are still to be kept.
--- The measure is the rows left, which a removal lessens too.
+-- At each turn the rest of the sweep, done now, gives the discoveries that are live.
+-- The measure is the rows not passed, which a removal lessens too.
 use Prim.Native.Nat.{_-_}
-use mathlib.Core.Path.{ap, _∙_}
-use native.Mathlib.Omega.{arith}
-use borrow.Author.Needs.{needs}
-use borrow.Author.Tests.{lt-ltb, le-ltb}
-use Rattle.flat_map.proofs.Table.{Sweep, sweep-start, sweep-kept, sweep-removed, sweep-end}
-use Rattle.standard.specs.Discovery.{discoveryKey, live}
+use mathlib.Core.Path.{sym, _∙_}
+use Rattle.standard.specs.Discovery.{live}
 use Rattle.standard.specs.Ordered.{keep}
-use Rattle.discovery_table.specs.declared.DiscoveryTable.{DiscoveryTable}
-use Rattle.discovery_table.specs.Table.{blankDiscovery, rowsOf, tableOf}
-use Rattle.discovery_table.proofs.Rows.{table-view}
+use Rattle.discovery_table.specs.Table.{inColumns, rowsOf}
+use Rattle.discovery_table.proofs.Swept.{Swept, begun, kept, taken, ended}
+use borrow.Author.Needs.{needs}
+use native.Mathlib.Omega.{arith}
 use Rattle.discovery_table.proofs.keep_live.Statement.{statement}
 use Rattle.discovery_table.proofs.keep_live.Tie as tie
 
 abbrev Inv-loop : tie.InvT-loop
-Inv-loop now u₀ i₀ u i = Sweep 32 discoveryKey blankDiscovery (live now) (keep (live now) (rowsOf u₀)) (u .keys) (u .entries) (u .count) i
+Inv-loop keys₀ words₀ ends₀ count now-ms n₀ i₀ keys words ends n i = Swept now-ms (keep (live now-ms) (rowsOf (inColumns keys₀ words₀ ends₀ count))) keys words ends n i
 
 abbrev μ-loop : tie.MeasureT-loop
-μ-loop now u₀ i₀ u i = u .count - i
+μ-loop keys₀ words₀ ends₀ count now-ms n₀ i₀ keys words ends n i = n - i
 
 loop-holds : tie.Need-loop-holds Inv-loop μ-loop
-loop-holds c =
-    let t = c .args .t in
-    sweep-start 32 discoveryKey blankDiscovery (live (c .args .now)) (t .keys) (t .entries) (t .count) (c .pre)
+loop-holds c = let s = c .before .before .before in begun _ _ _ _ _ (s .pre)
 
-mul-e : tie.Need-mul-e Inv-loop μ-loop
-mul-e c = omega (arith, c .before .loop .inv .formed .small)
+mul-if1 : tie.Need-mul-if1 Inv-loop μ-loop
+mul-if1 c = search needs
 
-element-copy-out-e : tie.Need-element-copy-out-e Inv-loop μ-loop
-element-copy-out-e c = omega (arith, c .before .loop .inv .formed .small)
+slice-read-if1 : tie.Need-slice-read-if1 Inv-loop μ-loop
+slice-read-if1 c = let o = c .before .before .loop .inv .sound .ordered in omega (arith, o .small, o .long .1 .1 .0)
 
 add-i : tie.Need-add-i Inv-loop μ-loop
-add-i c = omega (arith, c .before .before .before .before .loop .inv .formed .small)
+add-i c = search needs
 
 loop-less : tie.Need-loop-less Inv-loop μ-loop
 loop-less c = search needs
 
 loop-again : tie.Need-loop-again Inv-loop μ-loop
-loop-again c =
-    let v = c .before .before .before .before .loop in
-    sweep-kept 32 discoveryKey blankDiscovery _ (v .u .keys) (v .u .entries) (v .u .count) _ (v .i) (v .inv) (c .before .before .before .loop-test .taken) (lt-ltb _ _ (c .if1 .taken))
+loop-again c = let v = c .before .before .before .loop in kept _ (v .keys) (v .words) (v .ends) (v .n) _ (v .i) (v .inv) (omega arith) (c .if1 .taken)
 
 remove-at-requires : tie.Need-remove-at-requires Inv-loop μ-loop
 remove-at-requires c κs =
-    let small = c .before .before .before .before .loop .inv .formed .small in
-    (omega (arith, small), omega arith)
+    let o = c .before .before .before .before .before .before .loop .inv .sound .ordered in
+    (omega (arith, o .small, o .long .0), omega (arith, o .small, o .long .1 .0), omega (arith, o .small, o .long .1 .1 .0))
+
+sub-n : tie.Need-sub-n Inv-loop μ-loop
+sub-n c = search needs
 
 loop-less-2 : tie.Need-loop-less-2 Inv-loop μ-loop
-loop-less-2 c = omega (arith, ap (λ (t : DiscoveryTable). t .count) (c .remove-at .ensures))
+loop-less-2 c = search needs
 
 loop-again-2 : tie.Need-loop-again-2 Inv-loop μ-loop
 loop-again-2 c =
-    let v = c .before .before .before .before .before .loop in
-    rw (c .remove-at .ensures)
-    (sweep-removed 32 discoveryKey blankDiscovery _ (v .u .keys) (v .u .entries) (v .u .count) _ (v .i) (v .inv) (c .before .before .before .before .loop-test .taken) (le-ltb _ _ (c .before .if1 .left)))
+    let v = c .before .before .before .before .before .before .before .before .before .before .before .before .before .loop in
+    let e = c .before .before .before .before .before .before .remove-at .ensures in
+    taken _ (v .keys) (v .words) (v .ends) (v .n) _ (v .i) (v .inv) (omega arith) (c .before .before .before .before .before .before .before .before .before .before .if1 .left) _ _ _ (e .0) (e .1) (e .2)
+
+same-length : tie.Need-same-length Inv-loop μ-loop
+same-length c = c .before .loop .inv .sound .ordered .long .0 ∙ sym (c .before .before .before .before .before .pre .ordered .long .0)
+
+same-length-2 : tie.Need-same-length-2 Inv-loop μ-loop
+same-length-2 c = c .before .loop .inv .sound .ordered .long .1 .0 ∙ sym (c .before .before .before .before .before .pre .ordered .long .1 .0)
+
+same-length-3 : tie.Need-same-length-3 Inv-loop μ-loop
+same-length-3 c = c .before .loop .inv .sound .ordered .long .1 .1 .0 ∙ sym (c .before .before .before .before .before .pre .ordered .long .1 .1 .0)
 
 returns : tie.Need-returns Inv-loop μ-loop
-returns c =
-    let v = c .before .loop in
-    table-view (v .u) (v .inv .formed)
-    ∙ ap tableOf (sweep-end 32 discoveryKey blankDiscovery _ (v .u .keys) (v .u .entries) (v .u .count) _ (v .i) (v .inv) (c .loop-test .left))
+returns c = let v = c .before .loop in ended _ (v .keys) (v .words) (v .ends) (v .n) _ (v .i) (v .inv) (omega arith)
 
 pub keep-live-spec : {M : Type 1} → statement M
 keep-live-spec =
@@ -69,12 +71,16 @@ keep-live-spec =
     Inv-loop
     μ-loop
     loop-holds
-    mul-e
-    element-copy-out-e
+    mul-if1
+    slice-read-if1
     add-i
     loop-less
     loop-again
     remove-at-requires
+    sub-n
     loop-less-2
     loop-again-2
+    same-length
+    same-length-2
+    same-length-3
     returns)

@@ -1,42 +1,36 @@
--- Whether one of the rows that are left names the destination is whether one of all rows does, since none of those passed did.
+-- The answer so far, or the answer over the rows left, is the answer over all rows.
 -- The measure is the rows left.
 use Prim.Native.Nat.{_-_}
-use mathlib.Core.Path.{_≡_, refl, sym, _∙_}
-use native.Mathlib.Omega.{arith}
+use mathlib.Core.Path.{refl}
+use Rattle.standard.specs.Discovery.{names}
+use Rattle.discovery_table.specs.Table.{inColumns}
+use Rattle.discovery_table.proofs.Asked.{Asked, asked-more, asked-all, names-is}
 use borrow.Author.Needs.{needs}
-use borrow.Author.Tests.{eq-eqb, ne-eqb}
-use lib.ListN.{drop}
-use Rattle.flat_map.proofs.Query.{next-row, no-row, some-here, some-past, some-done}
-use Rattle.standard.specs.Discovery.{discoveryKey, names}
-use Rattle.standard.specs.Query.{someFits}
-use Rattle.discovery_table.specs.Table.{blankDiscovery, rowsOf}
+use native.Mathlib.Omega.{arith}
 use Rattle.discovery_table.proofs.names.Statement.{statement}
 use Rattle.discovery_table.proofs.names.Tie as tie
 
 abbrev Inv-loop : tie.InvT-loop
-Inv-loop destination t n i₀ i = someFits (names (destination .0)) (drop i (rowsOf t)) ≡ someFits (names (destination .0)) (rowsOf t)
+Inv-loop keys words ends count wanted found₀ i₀ found i = Asked (inColumns keys words ends count) (names wanted) found i
 
 abbrev μ-loop : tie.MeasureT-loop
-μ-loop destination t n i₀ i = n - i
+μ-loop keys words ends count wanted found₀ i₀ found i = count - i
+
+cast-wanted : tie.Need-cast-wanted Inv-loop μ-loop
+cast-wanted c = search needs
 
 loop-holds : tie.Need-loop-holds Inv-loop μ-loop
 loop-holds c = refl
 
-mul-e : tie.Need-mul-e Inv-loop μ-loop
-mul-e c = omega (arith, c .before .before .pre .small)
+mul-found : tie.Need-mul-found Inv-loop μ-loop
+mul-found c =
+    let s = c .before .before .before in
+    omega (arith, s .pre .ordered .small, s .pre .ordered .long .1 .0)
 
-element-copy-out-e : tie.Need-element-copy-out-e Inv-loop μ-loop
-element-copy-out-e c = omega (arith, c .before .before .pre .small)
-
-returns : tie.Need-returns Inv-loop μ-loop
-returns c =
-    let v = c .before .before .before .before .before .loop in
-    let s = c .before .before .before .before .before .before in
-    let t = s .args .t1 in
-    sym (some-here (names (s .args .destination .0))
-    (next-row 32 discoveryKey blankDiscovery (t .keys) (t .entries) (t .count) (s .pre) (v .i) (c .before .before .before .before .loop-test .taken))
-    (eq-eqb _ _ (c .if1 .taken)))
-    ∙ v .inv
+shared-slice-read-found : tie.Need-shared-slice-read-found Inv-loop μ-loop
+shared-slice-read-found c =
+    let s = c .before .before .before .before in
+    omega (arith, s .pre .ordered .small, s .pre .ordered .long .1 .0)
 
 add-i : tie.Need-add-i Inv-loop μ-loop
 add-i c = search needs
@@ -46,22 +40,19 @@ loop-less c = search needs
 
 loop-again : tie.Need-loop-again Inv-loop μ-loop
 loop-again c =
-    let v = c .before .before .before .before .before .loop in
-    let s = c .before .before .before .before .before .before in
-    let t = s .args .t1 in
-    sym (some-past (names (s .args .destination .0))
-    (next-row 32 discoveryKey blankDiscovery (t .keys) (t .entries) (t .count) (s .pre) (v .i) (c .before .before .before .before .loop-test .taken))
-    (ne-eqb _ _ (c .if1 .left)))
-    ∙ v .inv
+    let s = c .before .before .before .before in
+    let a = s .args in
+    let t = inColumns (a .keys .now) (a .words .now) (a .ends .now) (a .count) in
+    let v = c .before .before .loop in
+    asked-more t (s .pre) _ (v .found) (v .i) (v .inv) (c .before .loop-test .taken) _ (names-is _ _ _ _)
 
-returns-2 : tie.Need-returns-2 Inv-loop μ-loop
-returns-2 c =
+returns : tie.Need-returns Inv-loop μ-loop
+returns c =
+    let s = c .before .before .before in
+    let a = s .args in
+    let t = inColumns (a .keys .now) (a .words .now) (a .ends .now) (a .count) in
     let v = c .before .loop in
-    let s = c .before .before in
-    let t = s .args .t1 in
-    sym (some-done (names (s .args .destination .0))
-    (no-row 32 discoveryKey blankDiscovery (t .keys) (t .entries) (t .count) (s .pre) (v .i) (c .loop-test .left)))
-    ∙ v .inv
+    asked-all t (s .pre) _ (v .found) (v .i) (v .inv) (c .loop-test .left)
 
 pub names-spec : {M : Type 1} → statement M
 names-spec =
@@ -69,11 +60,11 @@ names-spec =
     (tie.spec
     Inv-loop
     μ-loop
+    cast-wanted
     loop-holds
-    mul-e
-    element-copy-out-e
-    returns
+    mul-found
+    shared-slice-read-found
     add-i
     loop-less
     loop-again
-    returns-2)
+    returns)

@@ -1,102 +1,76 @@
--- Each test tells a part of well-formedness: the keys go up, and the places passed are kept; the arrays have their lengths by
--- their types. So the answer tells it, as the computed test does. The measure is the places left.
-use Prim.Native.Nat.{ℕ, _<_, _-_}
-use borrow.Author.Needs.{needs}
+-- A wrong length or count is told; the rest is told together, as the computed test tells it.
+-- Assumes nothing.
 use native.Mathlib.Omega.{arith}
-use mathlib.Core.Path.{_≡_, refl}
-use lib.ListN.{length}
-use borrow.Author.Tests.{not-true, not-false}
-use Rattle.standard.specs.Discovery.{discoveryKey}
-use Rattle.standard.specs.Tells.{Tells}
-use Rattle.standard.proofs.Tells.{not-so, denied, tells-one}
-use Rattle.flat_map.proofs.Kept.{Kept, none-told, kept-more, all-kept}
-use Rattle.flat_map.proofs.Shift.{unmapped}
-use Rattle.discovery_table.specs.Table.{blankDiscovery, isBlank}
-use Rattle.discovery_table.proofs.Rows.{blank-told, well-formed-told}
+use Rattle.standard.proofs.Tells.{not-so, tells-one}
+use Rattle.discovery_table.specs.Table.{inColumns}
+use Rattle.discovery_table.proofs.Rows.{well-formed-told, columns-told}
+use borrow.Author.Needs.{needs}
 use Rattle.discovery_table.proofs.well_formed.Statement.{statement}
 use Rattle.discovery_table.proofs.well_formed.Tie as tie
 
-abbrev Inv-loop : tie.InvT-loop
-Inv-loop t n kept₀ i₀ kept i = Tells ((m : ℕ) → m < i → Kept discoveryKey blankDiscovery (t .keys) (t .entries) (t .count) m) kept
+returns : tie.Need-returns
+returns c =
+    let a = c .before .before .before .before .args in
+    let told = well-formed-told (inColumns (a .keys .now) (a .words .now) (a .ends .now) (a .count)) in
+    tells-one (not-so (λ w. c .if1 .taken (w .ordered .long .0))) told
 
-abbrev μ-loop : tie.MeasureT-loop
-μ-loop t n kept₀ i₀ kept i = 32 - i
+returns-2 : tie.Need-returns-2
+returns-2 c =
+    let a = c .before .before .before .before .before .args in
+    let told = well-formed-told (inColumns (a .keys .now) (a .words .now) (a .ends .now) (a .count)) in
+    tells-one (not-so (λ w. c .if2 .taken (w .ordered .long .1 .0))) told
 
--- an array of structs, as long as its type says
-long : (c : tie.Start Inv-loop μ-loop) → length (c .args .t1 .entries) ≡ 32
-long c = search (needs, unmapped)
-
-returns : tie.Need-returns Inv-loop μ-loop
-returns c = tells-one (not-so (λ w. omega (arith, w .small))) (well-formed-told _)
-
-rising-requires : tie.Need-rising-requires Inv-loop μ-loop
-rising-requires c κs = search needs
-
-returns-2 : tie.Need-returns-2 Inv-loop μ-loop
-returns-2 c = tells-one (not-so (λ w. denied (c .before .rising .ensures) (not-true _ (c .if2 .taken)) (w .rising))) (well-formed-told _)
-
-loop-holds : tie.Need-loop-holds Inv-loop μ-loop
-loop-holds c = none-told _
-
-mul-k : tie.Need-mul-k Inv-loop μ-loop
-mul-k c = search needs
-
-element-copy-out-k : tie.Need-element-copy-out-k Inv-loop μ-loop
-element-copy-out-k c = search needs
-
-mul-e : tie.Need-mul-e Inv-loop μ-loop
-mul-e c = search needs
-
-element-copy-out-e : tie.Need-element-copy-out-e Inv-loop μ-loop
-element-copy-out-e c = search needs
-
-pair-key-requires : tie.Need-pair-key-requires Inv-loop μ-loop
-pair-key-requires c κs = search needs
-
-place-holds-requires : tie.Need-place-holds-requires Inv-loop μ-loop
-place-holds-requires c κs = search needs
-
-add-i : tie.Need-add-i Inv-loop μ-loop
-add-i c = search needs
-
-loop-less : tie.Need-loop-less Inv-loop μ-loop
-loop-less c = search needs
-
-loop-again : tie.Need-loop-again Inv-loop μ-loop
-loop-again c =
-    let v = c .before .before .before .before .before .before .loop in
-    let t = c .before .before .before .before .before .before .before .before .before .before .before .before .before .args .t1 in
-    rw (c .before .pair-key .ensures, c .place-holds .ensures)
-    (kept-more discoveryKey blankDiscovery (t .keys) (t .entries) (t .count) isBlank blank-told (v .i) _ refl refl (v .inv))
-
-returns-3 : tie.Need-returns-3 Inv-loop μ-loop
+returns-3 : tie.Need-returns-3
 returns-3 c =
-    let v = c .before .loop in
-    let up = c .before .before in
-    let s = up .before .before .before .before .before .before in
-    let t = s .args .t1 in
+    let a = c .before .before .before .before .before .before .args in
+    let told = well-formed-told (inColumns (a .keys .now) (a .words .now) (a .ends .now) (a .count)) in
+    tells-one (not-so (λ w. c .if3 .taken (w .ordered .long .1 .1 .0))) told
+
+returns-4 : tie.Need-returns-4
+returns-4 c =
+    let a = c .before .before .before .before .before .before .before .args in
+    let told = well-formed-told (inColumns (a .keys .now) (a .words .now) (a .ends .now) (a .count)) in
+    tells-one (not-so (λ w. omega (arith, c .if4 .taken, w .ordered .small))) told
+
+rising32-requires : tie.Need-rising32-requires
+rising32-requires c κs = search needs
+
+zero-from32-requires : tie.Need-zero-from32-requires
+zero-from32-requires c κs = search needs
+
+zero-from64-requires : tie.Need-zero-from64-requires
+zero-from64-requires c κs = search needs
+
+zero-from64-requires-2 : tie.Need-zero-from64-requires-2
+zero-from64-requires-2 c κs = search needs
+
+under32-requires : tie.Need-under32-requires
+under32-requires c κs = search needs
+
+under64-requires : tie.Need-under64-requires
+under64-requires c κs = search needs
+
+returns-5 : tie.Need-returns-5
+returns-5 c =
+    let a = c .before .before .before .before .before .before .before .before .before .before .before .before .before .args in
+    let told = well-formed-told (inColumns (a .keys .now) (a .words .now) (a .ends .now) (a .count)) in
     tells-one
-    (all-kept discoveryKey blankDiscovery (t .keys) (t .entries) (t .count) 32 refl (search needs) (long s) (search needs)
-    (up .before .rising .ensures .fact (not-false _ (up .if2 .left))) (v .i) (search needs) (v .inv))
-    (well-formed-told t)
+    (columns-told (a .keys .now) (a .words .now) (a .ends .now) (a .count) (c .before .before .before .before .before .before .before .before .before .if1 .left, (c .before .before .before .before .before .before .before .before .if2 .left, (c .before .before .before .before .before .before .before .if3 .left, tt))) (c .before .before .before .before .before .before .if4 .left)
+    (c .before .before .before .before .before .rising32 .ensures) (c .before .before .before .before .zero-from32 .ensures) (c .before .before .before .zero-from64 .ensures) (c .before .before .zero-from642 .ensures) (c .before .under32 .ensures) (c .under64 .ensures))
+    told
 
 pub well-formed-spec : {M : Type 1} → statement M
 well-formed-spec =
     tie.close
     (tie.spec
-    Inv-loop
-    μ-loop
     returns
-    rising-requires
     returns-2
-    loop-holds
-    mul-k
-    element-copy-out-k
-    mul-e
-    element-copy-out-e
-    pair-key-requires
-    place-holds-requires
-    add-i
-    loop-less
-    loop-again
-    returns-3)
+    returns-3
+    returns-4
+    rising32-requires
+    zero-from32-requires
+    zero-from64-requires
+    zero-from64-requires-2
+    under32-requires
+    under64-requires
+    returns-5)

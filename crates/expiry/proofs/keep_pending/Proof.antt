@@ -1,72 +1,75 @@
--- The sweep's invariant: the routes passed are kept, and of the others those that stay are still to be kept.
--- The measure is the rows left, which a removal lessens too.
+-- At each turn the rest of the sweep, done now, gives the routes that stay.
+-- The measure is the rows not passed, which a removal lessens too.
 use Prim.Native.Nat.{_-_}
-use mathlib.Core.Path.{sym, ap, _∙_}
+use mathlib.Core.Path.{sym, _∙_}
 use native.Mathlib.Omega.{arith}
-use borrow.Author.Needs.{needs}
-use Rattle.flat_map.proofs.Table.{Sweep, sweep-start, sweep-kept, sweep-removed, sweep-end}
-use Rattle.standard.specs.Expiry.{stays}
+use Rattle.standard.specs.Discovery.{live}
+use Rattle.standard.specs.Expiry.{stays, expired}
 use Rattle.standard.specs.Ordered.{keep}
-use Rattle.standard.specs.Route.{routeKey}
-use Rattle.route_table.specs.declared.RouteTable.{RouteTable}
-use Rattle.route_table.specs.Table as route
 use Rattle.discovery_table.specs.Table as discovery
-use Rattle.route_table.proofs.Rows.{table-view}
+use Rattle.route_table.specs.Table as route
+use Rattle.expiry.proofs.Pending.{Swept, begun, kept, taken, ended}
+use borrow.Author.Needs.{needs}
 use Rattle.expiry.proofs.keep_pending.Statement.{statement}
 use Rattle.expiry.proofs.keep_pending.Tie as tie
 
 abbrev Inv-loop : tie.InvT-loop
-Inv-loop before left u₀ i₀ u i =
-    let passes = stays (discovery.rowsOf before) (discovery.rowsOf left) in
-    Sweep 64 routeKey route.blankRoute passes (keep passes (route.rowsOf u₀)) (u .keys) (u .entries) (u .count) i
+Inv-loop route-keys₀ route-words₀ route-usage₀ routes discovery-keys discovery-words discovery-ends discoveries now-ms n₀ i₀ route-keys route-words route-usage n i =
+    let ds = discovery.rowsOf (discovery.inColumns discovery-keys discovery-words discovery-ends discoveries) in
+    Swept (stays ds (keep (live now-ms) ds)) (keep (stays ds (keep (live now-ms) ds)) (route.rowsOf (route.inColumns route-keys₀ route-words₀ route-usage₀ routes))) route-keys route-words route-usage n i
 
 abbrev μ-loop : tie.MeasureT-loop
-μ-loop before left u₀ i₀ u i = u .count - i
+μ-loop route-keys₀ route-words₀ route-usage₀ routes discovery-keys discovery-words discovery-ends discoveries now-ms n₀ i₀ route-keys route-words route-usage n i = n - i
 
 loop-holds : tie.Need-loop-holds Inv-loop μ-loop
-loop-holds c =
-    let t = c .args .t in
-    sweep-start 64 routeKey route.blankRoute _ (t .keys) (t .entries) (t .count) (c .pre .0)
+loop-holds c = begun _ _ _ _ _ (c .before .before .before .before .before .before .pre .routes)
 
-mul-e : tie.Need-mul-e Inv-loop μ-loop
-mul-e c = omega (arith, c .before .loop .inv .formed .small)
-
-element-copy-out-e : tie.Need-element-copy-out-e Inv-loop μ-loop
-element-copy-out-e c = omega (arith, c .before .loop .inv .formed .small)
+entry-at-requires : tie.Need-entry-at-requires Inv-loop μ-loop
+entry-at-requires c κs =
+    let o = c .before .before .before .before .loop .inv .sound .ordered in
+    (omega (arith, o .small, o .long .0), omega (arith, o .small, o .long .1 .0), omega (arith, o .small, o .long .1 .1 .0))
 
 stays-requires : tie.Need-stays-requires Inv-loop μ-loop
-stays-requires c κs = c .before .before .before .pre .1
+stays-requires c κs = c .before .before .before .before .before .before .before .before .before .before .before .before .pre .discoveries
 
 add-i : tie.Need-add-i Inv-loop μ-loop
-add-i c = omega (arith, c .before .before .before .before .loop .inv .formed .small)
+add-i c = search needs
 
 loop-less : tie.Need-loop-less Inv-loop μ-loop
 loop-less c = search needs
 
 loop-again : tie.Need-loop-again Inv-loop μ-loop
-loop-again c =
-    let v = c .before .before .before .before .loop in
-    sweep-kept 64 routeKey route.blankRoute _ (v .u .keys) (v .u .entries) (v .u .count) _ (v .i) (v .inv) (c .before .before .before .loop-test .taken) (sym (c .before .stays .ensures) ∙ c .if1 .taken)
+loop-again c = let v = c .before .before .before .before .before .before .before .loop in kept _ (v .route-keys) (v .route-words) (v .route-usage) (v .n) _ (v .i) (v .inv) _ (c .before .before .entry-at .ensures) (omega arith) (sym (c .before .stays .ensures) ∙ c .if1 .taken)
 
 remove-at-requires : tie.Need-remove-at-requires Inv-loop μ-loop
 remove-at-requires c κs =
-    let small = c .before .before .before .before .loop .inv .formed .small in
-    (omega (arith, small), omega arith)
+    let o = c .before .before .before .before .before .before .before .before .before .before .loop .inv .sound .ordered in
+    (omega (arith, o .small, o .long .0), omega (arith, o .small, o .long .1 .0), omega (arith, o .small, o .long .1 .1 .0))
+
+sub-n : tie.Need-sub-n Inv-loop μ-loop
+sub-n c = search needs
 
 loop-less-2 : tie.Need-loop-less-2 Inv-loop μ-loop
-loop-less-2 c = omega (arith, ap (λ (t : RouteTable). t .count) (c .remove-at .ensures))
+loop-less-2 c = search needs
 
 loop-again-2 : tie.Need-loop-again-2 Inv-loop μ-loop
 loop-again-2 c =
-    let v = c .before .before .before .before .before .loop in
-    rw (c .remove-at .ensures)
-    (sweep-removed 64 routeKey route.blankRoute _ (v .u .keys) (v .u .entries) (v .u .count) _ (v .i) (v .inv) (c .before .before .before .before .loop-test .taken) (sym (c .before .before .stays .ensures) ∙ c .before .if1 .left))
+    let v = c .before .before .before .before .before .before .before .before .before .before .before .before .before .before .before .before .before .loop in
+    let r = c .before .before .before .before .before .before .remove-at .ensures in
+    taken _ (v .route-keys) (v .route-words) (v .route-usage) (v .n) _ (v .i) (v .inv) _ (c .before .before .before .before .before .before .before .before .before .before .before .before .entry-at .ensures) (omega arith) (sym (c .before .before .before .before .before .before .before .before .before .before .before .stays .ensures) ∙ c .before .before .before .before .before .before .before .before .before .before .if1 .left) _ _ _ (r .0) (r .1) (r .2)
+
+same-length : tie.Need-same-length Inv-loop μ-loop
+same-length c = c .before .loop .inv .sound .ordered .long .0 ∙ sym (c .before .before .before .before .before .before .before .before .pre .routes .ordered .long .0)
+
+same-length-2 : tie.Need-same-length-2 Inv-loop μ-loop
+same-length-2 c = c .before .loop .inv .sound .ordered .long .1 .0 ∙ sym (c .before .before .before .before .before .before .before .before .pre .routes .ordered .long .1 .0)
+
+same-length-3 : tie.Need-same-length-3 Inv-loop μ-loop
+same-length-3 c = c .before .loop .inv .sound .ordered .long .1 .1 .0 ∙ sym (c .before .before .before .before .before .before .before .before .pre .routes .ordered .long .1 .1 .0)
 
 returns : tie.Need-returns Inv-loop μ-loop
-returns c =
-    let v = c .before .loop in
-    table-view (v .u) (v .inv .formed)
-    ∙ ap route.tableOf (sweep-end 64 routeKey route.blankRoute _ (v .u .keys) (v .u .entries) (v .u .count) _ (v .i) (v .inv) (c .loop-test .left))
+unfolding expired
+returns c = let v = c .before .loop in ended _ (v .route-keys) (v .route-words) (v .route-usage) (v .n) _ (v .i) (v .inv) (omega arith)
 
 pub keep-pending-spec : {M : Type 1} → statement M
 keep-pending-spec =
@@ -75,13 +78,16 @@ keep-pending-spec =
     Inv-loop
     μ-loop
     loop-holds
-    mul-e
-    element-copy-out-e
+    entry-at-requires
     stays-requires
     add-i
     loop-less
     loop-again
     remove-at-requires
+    sub-n
     loop-less-2
     loop-again-2
+    same-length
+    same-length-2
+    same-length-3
     returns)

@@ -4,6 +4,7 @@ use denote.Ref.{now}
 use lib.ListN.{length, replicate}
 use borrow.Author.Tests.{eq-eqb, ne-eqb}
 use Rattle.world.specs.declared.World.{World}
+use Rattle.cells.specs.Layout.{imageLength}
 use Rattle.image.specs.Image.{imageWith}
 use Rattle.gateway.specs.Door.{newStatus, newImage}
 use borrow.Author.Needs.{needs}
@@ -12,7 +13,7 @@ use Rattle.gateway.proofs.warpteasel_new.Tie as tie
 
 returns : tie.Need-returns
 unfolding newStatus newImage
-returns c = (rw (ne-eqb (length (now (c .before .before .args .image))) 5450 (c .if1 .taken)), rw (ne-eqb (length (now (c .before .before .args .image))) 5450 (c .if1 .taken)))
+returns c = (rw (ne-eqb (length (now (c .before .before .args .image))) imageLength (c .if1 .taken)), rw (ne-eqb (length (now (c .before .before .args .image))) imageLength (c .if1 .taken)))
 
 fresh-requires : tie.Need-fresh-requires
 fresh-requires c κs = search needs
@@ -30,7 +31,7 @@ returns-2 : tie.Need-returns-2
 unfolding newStatus newImage
 returns-2 c =
     let x = now (c .before .before .before .before .before .before .before .before .args .image) in
-    let l = eq-eqb (length x) 5450 (c .before .before .before .before .before .before .if1 .left) in
+    let l = eq-eqb (length x) imageLength (c .before .before .before .before .before .before .if1 .left) in
     (rw l, rw l (c .before .before .keep .ensures ∙ ap (λ (w : World). imageWith w (replicate 2048 0) x) (c .before .before .before .before .before .fresh .ensures)))
 
 pub warpteasel-new-spec : {M : Type 1} → statement M

@@ -4,6 +4,7 @@ use mathlib.Core.List.{List}
 use mathlib.Core.Path.{ap, _∙_}
 use denote.Ref.{now}
 use lib.Seq.{sets}
+use Rattle.cells.specs.Layout.{storePlace}
 use Rattle.image.specs.Image.{imageWith}
 use borrow.Author.Needs.{needs}
 use Rattle.image.proofs.keep.Statement.{statement}
@@ -20,7 +21,7 @@ same-length c = search needs
 
 returns : tie.Need-returns
 unfolding imageWith
-returns c = c .before .before .write-store .ensures ∙ ap (λ (m : List ℕ). sets m 3402 (now (c .before .before .before .before .before .before .before .before .before .before .args .store))) (c .before .before .before .before .before .before .write-world .ensures)
+returns c = c .before .before .write-store .ensures ∙ ap (λ (m : List ℕ). sets m storePlace (now (c .before .before .before .before .before .before .before .before .before .before .args .store))) (c .before .before .before .before .before .before .write-world .ensures)
 
 pub keep-spec : {M : Type 1} → statement M
 keep-spec = tie.close (tie.spec write-world-requires write-store-requires same-length returns)

@@ -7,6 +7,7 @@ use denote.Ref.{now}
 use lib.ListN.{length}
 use lib.Seq.{sets}
 use Rattle.flat_map.proofs.Shift.{unmapped}
+use Rattle.cells.specs.Layout.{neighborsPlace, waitingPlace}
 use Rattle.cells.proofs.Writing.{put-both}
 use Rattle.neighbor_image.specs.Neighbors.{waitingTableNumbers}
 use Rattle.neighbor_image.specs.Neighbors as tables
@@ -34,8 +35,8 @@ unfolding neighborsNumbers
 returns c =
     let a = c .before .before .before .before .before .before .before .before .before .before .before .args in
     c .before .before .write-waiting .ensures
-    ∙ ap (λ (m : List ℕ). sets m 2953 (waitingTableNumbers (a .neighbors .«pending_lqas»))) (c .before .before .before .before .before .before .write-neighbors .ensures)
-    ∙ put-both (tables.neighborsNumbers (a .neighbors .table)) (waitingTableNumbers (a .neighbors .«pending_lqas»)) (now (a .image)) 1160 2953 (omega (arith, long (c .before .before .before .before .before .before .before .before .before .before .before)))
+    ∙ ap (λ (m : List ℕ). sets m waitingPlace (waitingTableNumbers (a .neighbors .«pending_lqas»))) (c .before .before .before .before .before .before .write-neighbors .ensures)
+    ∙ put-both (tables.neighborsNumbers (a .neighbors .table)) (waitingTableNumbers (a .neighbors .«pending_lqas»)) (now (a .image)) neighborsPlace waitingPlace (omega (arith, long (c .before .before .before .before .before .before .before .before .before .before .before)))
 
 pub write-neighbors-spec : {M : Type 1} → statement M
 write-neighbors-spec =

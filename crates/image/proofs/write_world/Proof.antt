@@ -6,19 +6,19 @@ use native.Mathlib.Omega.{arith}
 use denote.Ref.{now}
 use lib.ListN.{length}
 use lib.Seq.{sets}
-use Rattle.flat_map.proofs.Shift.{unmapped}
+use Rattle.cells.specs.Layout.{neighborsPlace}
 use Rattle.cells.proofs.Writing.{put-both}
 use Rattle.image.specs.Image.{routingNumbers, neighborsNumbers, worldNumbers}
-use Rattle.image.proofs.Lengths.{routes-long, discoveries-long, records-long, routing-long}
+use Rattle.image.proofs.Lengths.{routing-long}
 use borrow.Author.Needs.{needs}
 use Rattle.image.proofs.write_world.Statement.{statement}
 use Rattle.image.proofs.write_world.Tie as tie
 
 -- the arrays are as long as their types say
-long : (c : tie.Start) → length (routingNumbers (c .args .world .routing)) ≡ 1160
+long : (c : tie.Start) → length (routingNumbers (c .args .world .routing)) ≡ neighborsPlace
 long c =
     let r = c .args .world .routing in
-    routing-long r (routes-long (r .«route_table») (search needs) (search (needs, unmapped))) (discoveries-long (r .«discovery_table») (search needs) (search (needs, unmapped))) (records-long (r .«route_record_table») (search needs) (search (needs, unmapped)))
+    routing-long r (search needs)
 
 write-routing-requires : tie.Need-write-routing-requires
 write-routing-requires c κs = search needs
@@ -34,8 +34,8 @@ unfolding worldNumbers
 returns c =
     let a = c .before .before .before .before .before .before .before .before .before .before .before .args in
     c .before .before .write-neighbors .ensures
-    ∙ ap (λ (m : List ℕ). sets m 1160 (neighborsNumbers (a .world .neighbors))) (c .before .before .before .before .before .before .write-routing .ensures)
-    ∙ put-both (routingNumbers (a .world .routing)) (neighborsNumbers (a .world .neighbors)) (now (a .image)) 0 1160 (omega (arith, long (c .before .before .before .before .before .before .before .before .before .before .before)))
+    ∙ ap (λ (m : List ℕ). sets m neighborsPlace (neighborsNumbers (a .world .neighbors))) (c .before .before .before .before .before .before .write-routing .ensures)
+    ∙ put-both (routingNumbers (a .world .routing)) (neighborsNumbers (a .world .neighbors)) (now (a .image)) 0 neighborsPlace (omega (arith, long (c .before .before .before .before .before .before .before .before .before .before .before)))
 
 pub write-world-spec : {M : Type 1} → statement M
 write-world-spec =

@@ -8,6 +8,7 @@ use Rattle.standard.proofs.Tells.{tells-both}
 use Rattle.relay_store.specs.Store.{agrees}
 use Rattle.relay_store.proofs.Agree.{agrees-told}
 use Rattle.routing.specs.State as routes
+use Rattle.routing.specs.State.{recordTable}
 use Rattle.routing.proofs.State.{state-told}
 use Rattle.neighbors.specs.State as neighbours
 use Rattle.neighbors.proofs.Checked.{well-formed-told}
@@ -28,7 +29,7 @@ refuse-requires c κs = search needs
 good : (c : tie.Else1) → (routes.wellFormed (c .before .before .before .before .args .routing) && neighbours.wellFormed (c .before .before .before .before .args .neighbors)) ≡ true
 good c = rw (c .before .well-formed2 .ensures, c .before .before .well-formed .ensures) at (not-false (c .before .before .well-formed .result && c .before .well-formed2 .result) (c .if1 .left))
 
-fit : (c : tie.Else2) → agrees (c .before .before .before .before .before .before .before .args .routing .«route_record_table») (c .before .before .before .before .before .before .before .args .store .now) ≡ true
+fit : (c : tie.Else2) → agrees (recordTable (c .before .before .before .before .before .before .args .routing)) (c .before .before .before .before .before .before .args .store .now) ≡ true
 fit c = sym (c .before .agrees .ensures) ∙ not-false _ (c .if2 .left)
 
 returns : tie.Need-returns
@@ -39,7 +40,7 @@ returns c =
     rw ill (c .refuse .ensures)
 
 agrees-requires : tie.Need-agrees-requires
-agrees-requires c κs = search needs
+agrees-requires c κs = tells-both (state-told _) (well-formed-told _) .fact (good c) .0
 
 refuse-requires-2 : tie.Need-refuse-requires-2
 refuse-requires-2 c κs = search needs
@@ -48,7 +49,7 @@ returns-2 : tie.Need-returns-2
 unfolding resolve
 returns-2 c =
     let t = c .before .before in
-    rw (good (t .before .before), sym (t .agrees .ensures) ∙ not-true _ (c .before .if2 .taken)) (c .refuse2 .ensures)
+    rw (good (t .before), sym (t .agrees .ensures) ∙ not-true _ (c .before .if2 .taken)) (c .refuse2 .ensures)
 
 names-long-requires : tie.Need-names-long-requires
 names-long-requires c κs = search needs
@@ -65,7 +66,7 @@ returns-3 c =
     let t = c .before .before in
     let b = t .before .before in
     let long = rw (t .carries-long .ensures, t .before .names-long .ensures) at (c .before .if3 .taken) in
-    rw (good (b .before .before .before), fit b, long) (c .refuse3 .ensures)
+    rw (good (b .before .before), fit b, long) (c .refuse3 .ensures)
 
 neither : (a b : Bool) → (a || b) ≡ false → a ≡ false
 neither true b e = e
@@ -74,7 +75,7 @@ neither false b e = refl
 resolve-core-requires : tie.Need-resolve-core-requires
 resolve-core-requires c κs =
     let b = c .before .before .before in
-    let formed = tells-both (state-told _) (well-formed-told _) .fact (good (b .before .before .before)) in
+    let formed = tells-both (state-told _) (well-formed-told _) .fact (good (b .before .before)) in
     let few = rw (c .before .before .names-long .ensures) at (c .if3 .left) in
     (formed .0, formed .1, agrees-told _ _ .fact (fit b), neither _ _ few)
 
@@ -84,7 +85,7 @@ returns-4 c =
     let t = c .before .before in
     let b = t .before .before in
     let few = rw (t .carries-long .ensures, t .before .names-long .ensures) at (c .before .if3 .left) in
-    rw (good (b .before .before .before), fit b, few) (c .resolve-core .ensures)
+    rw (good (b .before .before), fit b, few) (c .resolve-core .ensures)
 
 pub resolve-spec : {M : Type 1} → statement M
 resolve-spec =

@@ -1,116 +1,30 @@
--- At each turn the rest of the shift, done now, gives the whole shift; the blank in the last place ends it.
--- The measure is the places left.
-use Prim.Native.Nat.{_≤_, _-_}
-use mathlib.Core.Path.{_≡_, refl, sym, _∙_}
+-- The place is that of the destination, so that it is in use, and what is taken out of each column there
+-- is `remove` on the entries.
 use native.Mathlib.Omega.{arith}
+use Rattle.record_table.specs.Table.{inColumns}
+use Rattle.record_table.proofs.Rows.{place-within, taken-out}
 use borrow.Author.Needs.{needs}
-use lib.ListN.{length, set, length-set}
-use Rattle.flat_map.specs.Shift.{shiftOut}
-use Rattle.flat_map.proofs.Shift.{shift-out-step, shift-out-end, unmapped}
-use Rattle.record_table.specs.Table.{blankRecord}
 use Rattle.record_table.proofs.remove_at.Statement.{statement}
 use Rattle.record_table.proofs.remove_at.Tie as tie
 
-abbrev Inv-loop : tie.InvT-loop
-Inv-loop t i u₀ j₀ u j =
-    (j ≤ 63)
-    × (length (u .keys) ≡ 64)
-    × (length (u .entries) ≡ 64)
-    × (shiftOut j 0 (u .keys) ≡ shiftOut j₀ 0 (u₀ .keys))
-    × (shiftOut j blankRecord (u .entries) ≡ shiftOut j₀ blankRecord (u₀ .entries))
+out16-requires : tie.Need-out16-requires
+out16-requires c κs = omega (arith, place-within (inColumns (c .before .before .before .args .keys .now) (c .before .before .before .args .lengths .now) (c .before .before .before .args .count)) (c .before .before .before .pre .0) _ _ (c .before .before .before .pre .1), c .before .before .before .pre .0 .ordered .small, c .before .before .before .pre .0 .ordered .long .0)
 
-abbrev μ-loop : tie.MeasureT-loop
-μ-loop t i u₀ j₀ u j = 63 - j
+out8-requires : tie.Need-out8-requires
+out8-requires c κs = omega (arith, place-within (inColumns (c .before .before .before .before .before .before .before .args .keys .now) (c .before .before .before .before .before .before .before .args .lengths .now) (c .before .before .before .before .before .before .before .args .count)) (c .before .before .before .before .before .before .before .pre .0) _ _ (c .before .before .before .before .before .before .before .pre .1), c .before .before .before .before .before .before .before .pre .0 .ordered .small, c .before .before .before .before .before .before .before .pre .0 .ordered .long .1 .0)
 
-loop-holds : tie.Need-loop-holds Inv-loop μ-loop
-loop-holds c = (search needs, search needs, search (needs, unmapped), refl, refl)
+sub-result : tie.Need-sub-result
+sub-result c = omega (arith, place-within (inColumns (c .before .before .before .before .before .before .before .before .before .before .args .keys .now) (c .before .before .before .before .before .before .before .before .before .before .args .lengths .now) (c .before .before .before .before .before .before .before .before .before .before .args .count)) (c .before .before .before .before .before .before .before .before .before .before .pre .0) _ _ (c .before .before .before .before .before .before .before .before .before .before .pre .1), c .before .before .before .before .before .before .before .before .before .before .pre .0 .ordered .small)
 
-add-u : tie.Need-add-u Inv-loop μ-loop
-add-u c = search needs
+same-length : tie.Need-same-length
+same-length c = search needs
 
-mul-u : tie.Need-mul-u Inv-loop μ-loop
-mul-u c = search needs
+same-length-2 : tie.Need-same-length-2
+same-length-2 c = search needs
 
-element-copy-out-u : tie.Need-element-copy-out-u Inv-loop μ-loop
-element-copy-out-u c = search needs
-
-mul-u-2 : tie.Need-mul-u-2 Inv-loop μ-loop
-mul-u-2 c = search needs
-
-element-write-u : tie.Need-element-write-u Inv-loop μ-loop
-element-write-u c = search needs
-
-add-x : tie.Need-add-x Inv-loop μ-loop
-add-x c = search needs
-
-mul-x : tie.Need-mul-x Inv-loop μ-loop
-mul-x c = search needs
-
-element-copy-out-x : tie.Need-element-copy-out-x Inv-loop μ-loop
-element-copy-out-x c = search needs
-
-mul-x-2 : tie.Need-mul-x-2 Inv-loop μ-loop
-mul-x-2 c = search needs
-
-element-set-from-x : tie.Need-element-set-from-x Inv-loop μ-loop
-element-set-from-x c = search needs
-
-add-j : tie.Need-add-j Inv-loop μ-loop
-add-j c = search needs
-
-loop-less : tie.Need-loop-less Inv-loop μ-loop
-loop-less c = search needs
-
-loop-again : tie.Need-loop-again Inv-loop μ-loop
-loop-again c =
-    let at = c .before .before .before in
-    let v = at .loop in
-    (omega arith, simp length-set (v .inv .1), simp length-set (v .inv .2), shift-out-step (v .u .keys) (v .j) 0 _ (omega arith) ∙ v .inv .3, shift-out-step (v .u .entries) (v .j) blankRecord _ (omega arith) ∙ v .inv .4)
-
-element-write-u-2 : tie.Need-element-write-u-2 Inv-loop μ-loop
-element-write-u-2 c = search needs
-
-blank-requires : tie.Need-blank-requires Inv-loop μ-loop
-blank-requires c κs = search needs
-
-element-set-from-b : tie.Need-element-set-from-b Inv-loop μ-loop
-element-set-from-b c = search needs
-
-sub-u : tie.Need-sub-u Inv-loop μ-loop
-sub-u c = search needs
-
-returns : tie.Need-returns Inv-loop μ-loop
-returns c =
-    let at = c .before .before .before in
-    let v = at .loop in
-    let a = at .before .args in
-    let e : v .j ≡ 63 = omega arith in
-    let ks : set (v .u .keys) (v .j) 0 ≡ shiftOut (a .i) 0 (a .t .keys) = sym (shift-out-end (v .u .keys) (v .j) 0 (omega arith)) ∙ v .inv .3 in
-    let es : set (v .u .entries) (v .j) blankRecord ≡ shiftOut (a .i) blankRecord (a .t .entries) = sym (shift-out-end (v .u .entries) (v .j) blankRecord (omega arith)) ∙ v .inv .4 in
-    cc (c .before .blank .ensures)
+returns : tie.Need-returns
+returns c = rw (c .before .before .before .before .before .before .out16 .ensures, c .before .before .out8 .ensures) (taken-out (inColumns (c .before .before .before .before .before .before .before .before .before .before .args .keys .now) (c .before .before .before .before .before .before .before .before .before .before .args .lengths .now) (c .before .before .before .before .before .before .before .before .before .before .args .count)) (c .before .before .before .before .before .before .before .before .before .before .pre .0) _ _ (c .before .before .before .before .before .before .before .before .before .before .pre .1))
 
 pub remove-at-spec : {M : Type 1} → statement M
 remove-at-spec =
-    tie.close
-    (tie.spec
-    Inv-loop
-    μ-loop
-    loop-holds
-    add-u
-    mul-u
-    element-copy-out-u
-    mul-u-2
-    element-write-u
-    add-x
-    mul-x
-    element-copy-out-x
-    mul-x-2
-    element-set-from-x
-    add-j
-    loop-less
-    loop-again
-    element-write-u-2
-    blank-requires
-    element-set-from-b
-    sub-u
-    returns)
+    tie.close (tie.spec out16-requires out8-requires sub-result same-length same-length-2 returns)

@@ -1,23 +1,21 @@
--- By the time sum, on tables whose rows are those that the expiry leaves; the new entry stands under the pair by its own fields.
+-- By the time sum: past the clock's end it is refused, else the new entry stands under the pair by its own fields.
 -- Assumes nothing.
 use Prim.Native.Nat.{ℕ}
 use mathlib.Core.Path.{sym, ap, _∙_}
-use borrow.Author.Needs.{needs}
+use Rattle.types.specs.declared.Refusal.the-variants.{TimePastEnd}
 use Rattle.types.specs.declared.Sum.{Sum}
 use Rattle.standard.specs.declared.DiscoveryEntry.{DiscoveryEntry}
-use Rattle.standard.specs.Begin.{advertise, ownDiscovery}
+use Rattle.standard.specs.Begin.{ownDiscovery}
+use Rattle.standard.specs.Discovery.{discoveryKey}
 use Rattle.standard.specs.Expiry.{expired}
 use Rattle.standard.specs.Route.{nwk}
-use Rattle.standard.specs.Tables.{Tables}
-use Rattle.search_tables.specs.Packed.{tablesOf}
-use Rattle.expiry.proofs.Fit.{left-formed, left-rows}
-use Rattle.route_begin.specs.Answer.{begunWith, byTime, advertised}
+use Rattle.search_tables.specs.Packed.{inColumns, tablesOf}
+use Rattle.route_begin.specs.Answer.{begunWith, byTime}
 use Rattle.route_begin.specs.Marked.{noted}
+use Rattle.route_begin.proofs.Rules.{leaves-as, leaves-refused, advertised-is}
+use borrow.Author.Needs.{needs}
 use Rattle.route_begin.proofs.advertise.Statement.{statement}
 use Rattle.route_begin.proofs.advertise.Tie as tie
-
-expire-requires : tie.Need-expire-requires
-expire-requires c κs = c .pre
 
 time-sum-requires : tie.Need-time-sum-requires
 time-sum-requires c κs = search needs
@@ -28,10 +26,8 @@ enum-known-sum c = search needs
 own-discovery-requires : tie.Need-own-discovery-requires
 own-discovery-requires c κs = search needs
 
-note-requires : tie.Need-note-requires
-note-requires c κs =
-    let at = c .before .before .before .before .before in
-    (left-formed (at .before .args .now) (at .before .args .t) (at .before .pre) _ (at .expire .ensures), rw (c .own-discovery .ensures))
+advertise-with-requires : tie.Need-advertise-with-requires
+advertise-with-requires c κs = (c .before .before .before .before .before .before .before .before .before .before .before .before .before .before .before .before .before .pre, ap discoveryKey (c .before .before .before .before .before .before .own-discovery .ensures))
 
 enum-told : tie.Need-enum-told
 enum-told c = search needs
@@ -39,35 +35,59 @@ enum-told c = search needs
 refuse-requires : tie.Need-refuse-requires
 refuse-requires c κs = search needs
 
+same-length : tie.Need-same-length
+same-length c = c .before .before .before .before .before .before .before .before .before .before .before .before .advertise-with .ensures .left .formed .routes .ordered .long .0 ∙ sym (c .before .before .before .before .before .before .before .before .before .before .before .before .before .before .before .before .before .before .before .before .before .before .before .before .before .before .before .before .before .before .pre .routes .ordered .long .0)
+
+same-length-2 : tie.Need-same-length-2
+same-length-2 c = c .before .before .before .before .before .before .before .before .before .before .before .before .advertise-with .ensures .left .formed .routes .ordered .long .1 .0 ∙ sym (c .before .before .before .before .before .before .before .before .before .before .before .before .before .before .before .before .before .before .before .before .before .before .before .before .before .before .before .before .before .before .pre .routes .ordered .long .1 .0)
+
+same-length-3 : tie.Need-same-length-3
+same-length-3 c = c .before .before .before .before .before .before .before .before .before .before .before .before .advertise-with .ensures .left .formed .routes .ordered .long .1 .1 .0 ∙ sym (c .before .before .before .before .before .before .before .before .before .before .before .before .before .before .before .before .before .before .before .before .before .before .before .before .before .before .before .before .before .before .pre .routes .ordered .long .1 .1 .0)
+
+same-length-4 : tie.Need-same-length-4
+same-length-4 c = c .before .before .before .before .before .before .before .before .before .before .before .before .advertise-with .ensures .left .formed .discoveries .ordered .long .0 ∙ sym (c .before .before .before .before .before .before .before .before .before .before .before .before .before .before .before .before .before .before .before .before .before .before .before .before .before .before .before .before .before .before .pre .discoveries .ordered .long .0)
+
+same-length-5 : tie.Need-same-length-5
+same-length-5 c = c .before .before .before .before .before .before .before .before .before .before .before .before .advertise-with .ensures .left .formed .discoveries .ordered .long .1 .0 ∙ sym (c .before .before .before .before .before .before .before .before .before .before .before .before .before .before .before .before .before .before .before .before .before .before .before .before .before .before .before .before .before .before .pre .discoveries .ordered .long .1 .0)
+
+same-length-6 : tie.Need-same-length-6
+same-length-6 c = c .before .before .before .before .before .before .before .before .before .before .before .before .advertise-with .ensures .left .formed .discoveries .ordered .long .1 .1 .0 ∙ sym (c .before .before .before .before .before .before .before .before .before .before .before .before .before .before .before .before .before .before .before .before .before .before .before .before .before .before .before .before .before .before .pre .discoveries .ordered .long .1 .1 .0)
+
 returns : tie.Need-returns
-unfolding advertised advertise
 returns c =
-    let at = c .before .before .before in
-    let ex = at .before .before .before in
-    let s = ex .before in
+    let s = c .before .before .before .before .before .before .before .before .before .before .before .before .before .before .before .before .before .before .before .before .before .before .before .before .before .before .before .before .before .before in
     let a = s .args in
-    c .note .ensures
-    ∙ ap (λ (d : DiscoveryEntry). begunWith (a .t) (a .id) (noted d (tablesOf (ex .expire .result)))) (c .before .own-discovery .ensures)
-    ∙ ap (λ (y : Tables). begunWith (a .t) (a .id) (noted (ownDiscovery (a .own) (a .id) (at .sum .given .0 .0) (nwk 0xFFFC)) y)) (left-rows (a .now) (a .t) (s .pre) _ (ex .expire .ensures))
-    ∙ ap (λ (m : Sum). byTime (a .t) m (a .id) (λ (e : ℕ). advertise (a .own) (a .id) e (expired (a .now) (tablesOf (a .t))))) (sym (at .sum .given .1) ∙ at .before .before .time-sum .ensures)
+    let t = inColumns (a .route-keys .now) (a .route-words .now) (a .route-usage .now) (a .routes) (a .discovery-keys .now) (a .discovery-words .now) (a .discovery-ends .now) (a .discoveries) in
+    let left = expired (a .now-ms) (tablesOf t) in
+    leaves-as _ _ _ _
+    (ap (λ (d : DiscoveryEntry). begunWith (tablesOf t) (a .id) (noted d left)) (c .before .before .before .before .before .before .before .before .before .before .before .before .before .before .before .before .before .before .before .own-discovery .ensures)
+    ∙ ap (λ (z : Sum). byTime (tablesOf t) z (a .id) (λ (e : ℕ). noted (ownDiscovery (a .own) (a .id) e (nwk 0xFFFC)) left)) (sym (c .before .before .before .before .before .before .before .before .before .before .before .before .before .before .before .before .before .before .before .before .before .sum .given .1) ∙ c .before .before .before .before .before .before .before .before .before .before .before .before .before .before .before .before .before .before .before .before .before .before .before .time-sum .ensures)
+    ∙ sym (advertised-is (a .own) (a .id) (a .now-ms) (a .span) (tablesOf t)))
+    (c .before .before .before .before .before .before .before .before .before .before .before .before .advertise-with .ensures)
 
 returns-2 : tie.Need-returns-2
-unfolding advertised
 returns-2 c =
-    let a = c .before .before .before .before .before .args in
-    c .refuse .ensures
-    ∙ ap (λ (m : Sum). byTime (a .t) m (a .id) (λ (e : ℕ). advertise (a .own) (a .id) e (expired (a .now) (tablesOf (a .t))))) (sym (c .before .enum-told .given .1) ∙ c .before .before .before .time-sum .ensures)
+    let s = c .before .before .before .before .before .before .before .before .before .before in
+    let a = s .args in
+    let t = inColumns (a .route-keys .now) (a .route-words .now) (a .route-usage .now) (a .routes) (a .discovery-keys .now) (a .discovery-words .now) (a .discovery-ends .now) (a .discoveries) in
+    let left = expired (a .now-ms) (tablesOf t) in
+    leaves-refused t (s .pre) TimePastEnd _ (c .refuse .ensures) _ (advertised-is (a .own) (a .id) (a .now-ms) (a .span) (tablesOf t) ∙ ap (λ (z : Sum). byTime (tablesOf t) z (a .id) (λ (e : ℕ). noted (ownDiscovery (a .own) (a .id) e (nwk 0xFFFC)) left)) (sym (c .before .before .before .time-sum .ensures) ∙ c .before .enum-told .given .1))
 
 pub advertise-spec : {M : Type 1} → statement M
 advertise-spec =
     tie.close
     (tie.spec
-    expire-requires
     time-sum-requires
     enum-known-sum
     own-discovery-requires
-    note-requires
+    advertise-with-requires
     enum-told
     refuse-requires
+    same-length
+    same-length-2
+    same-length-3
+    same-length-4
+    same-length-5
+    same-length-6
     returns
     returns-2)

@@ -1,73 +1,63 @@
--- Without room for the route it is refused first; with it, the discovery is stored in tables whose rows are the marked ones.
+-- The place is that of the destination, and so is the place of the route that is put there, which has another status only.
 -- Assumes nothing.
-use mathlib.Core.Bool.{true, false}
-use mathlib.Core.Path.{_≡_, refl, sym, ap, _∙_}
-use borrow.Author.Needs.{needs}
-use borrow.Author.Tests.{not-true, not-false}
-use lib.Dec.{leb}
+use Prim.Native.Nat.{ℕ, _≤_}
+use mathlib.Core.Path.{sym, ap, _∙_, subst}
+use lib.ListN.{take}
+use Rattle.flat_map.specs.Seek.{placeOf}
+use Rattle.standard.specs.declared.Status.the-variants.{DiscoveryUnderway}
 use Rattle.standard.specs.Ordered.{countWith}
-use Rattle.standard.specs.Route.{routeKey}
-use Rattle.standard.specs.Tables.{Tables}
-use Rattle.search_tables.specs.Packed.{tablesOf}
-use Rattle.route_begin.specs.Answer.{begunWith}
-use Rattle.route_begin.specs.Marked.{marked, noted}
-use Rattle.route_begin.proofs.Rules.{begun-by, marked-room, marked-free, marked-formed, marked-tables}
+use Rattle.standard.specs.Route.{routeKey, withStatus}
+use Rattle.route_table.specs.Table.{inColumns, rowsOf}
+use Rattle.route_begin.proofs.Rules.{marked-key, holds-marked}
+use borrow.Author.Needs.{needs}
 use Rattle.route_begin.proofs.mark.Statement.{statement}
 use Rattle.route_begin.proofs.mark.Tie as tie
 
-has-room-requires : tie.Need-has-room-requires
-has-room-requires c κs = c .before .before .pre .0 .routes
-
-refuse-requires : tie.Need-refuse-requires
-refuse-requires c κs = search needs
-
-returns : tie.Need-returns
-returns c =
-    let s = c .before .before .before .before .before in
-    let a = s .args in
-    c .refuse .ensures
-    ∙ sym (begun-by (a .old) (a .id) (noted (a .d) (marked (a .destination) (tablesOf (a .t)))) false _
-    (marked-room (a .t) (s .pre .0) (a .destination) ∙ sym (c .before .before .has-room .ensures) ∙ not-true _ (c .before .if1 .taken)) refl)
-
--- what the test showed
-free : (c : tie.Else1) → let a = c .before .before .before .before .args in leb (countWith routeKey (a .destination .0) (tablesOf (a .t) .routes)) 64 ≡ true
-free c = sym (c .before .has-room .ensures) ∙ not-false _ (c .if1 .left)
+place-of-requires : tie.Need-place-of-requires
+place-of-requires c κs = c .before .before .before .before .before .before .pre .0
 
 route-or-requires : tie.Need-route-or-requires
-route-or-requires c κs = c .before .before .before .before .pre .0 .routes
+route-or-requires c κs = (c .before .before .before .before .before .before .before .before .before .before .pre .0, c .before .before .before .place-of .ensures)
 
 with-status-requires : tie.Need-with-status-requires
 with-status-requires c κs = search needs
 
-put-requires : tie.Need-put-requires
-put-requires c κs =
-    let at = c .before .before in
-    let s = at .before .before .before .before in
-    (s .pre .0 .routes, rw (c .with-status .ensures, c .before .route-or .ensures) (marked-free (s .args .t) (s .pre .0) (s .args .destination) (free at)))
-
-note-requires : tie.Need-note-requires
-note-requires c κs =
-    let at = c .before .before .before in
-    let s = at .before .before .before .before in
-    (rw (c .put .ensures, c .before .with-status .ensures, c .before .before .route-or .ensures) (marked-formed (s .args .t) (s .pre .0) (s .args .destination) (free at)), s .pre .1)
-
-returns-2 : tie.Need-returns-2
-returns-2 c =
-    let at = c .before .before .before .before in
-    let s = at .before .before .before .before in
+put-at-requires : tie.Need-put-at-requires
+put-at-requires c κs =
+    let s = c .before .before .before .before .before .before .before .before .before .before .before .before .before .before .before in
     let a = s .args in
-    rw (c .note .ensures, c .before .put .ensures, c .before .before .with-status .ensures, c .before .before .before .route-or .ensures)
-    (ap (λ (t : Tables). begunWith (a .old) (a .id) (noted (a .d) t)) (marked-tables (a .t) (s .pre .0) (a .destination) (free at)))
+    let xs = rowsOf (inColumns (a .route-keys .now) (a .route-words .now) (a .route-usage .now) (a .routes)) in
+    let key = ap routeKey (c .with-status .ensures ∙ ap (withStatus DiscoveryUnderway) (c .before .before .before .before .route-or .ensures)) ∙ marked-key (a .destination) xs in (
+      s .pre .0,
+      c .before .before .before .before .before .before .before .before .place-of .ensures ∙ sym (ap (placeOf (take (a .routes) (a .route-keys .now))) key),
+      subst (λ (k : ℕ). countWith routeKey k xs ≤ 64) (sym key) (s .pre .1),
+    )
+
+same-length : tie.Need-same-length
+same-length c = c .before .before .before .before .before .before .put-at .ensures .formed .ordered .long .0 ∙ sym (c .before .before .before .before .before .before .before .before .before .before .before .before .before .before .before .before .before .before .before .before .before .before .pre .0 .ordered .long .0)
+
+same-length-2 : tie.Need-same-length-2
+same-length-2 c = c .before .before .before .before .before .before .put-at .ensures .formed .ordered .long .1 .0 ∙ sym (c .before .before .before .before .before .before .before .before .before .before .before .before .before .before .before .before .before .before .before .before .before .before .pre .0 .ordered .long .1 .0)
+
+same-length-3 : tie.Need-same-length-3
+same-length-3 c = c .before .before .before .before .before .before .put-at .ensures .formed .ordered .long .1 .1 .0 ∙ sym (c .before .before .before .before .before .before .before .before .before .before .before .before .before .before .before .before .before .before .before .before .before .before .pre .0 .ordered .long .1 .1 .0)
+
+returns : tie.Need-returns
+returns c =
+    let s = c .before .before .before .before .before .before .before .before .before .before .before .before .before .before .before .before .before .before .before .before .before .before in
+    let a = s .args in
+    let xs = rowsOf (inColumns (a .route-keys .now) (a .route-words .now) (a .route-usage .now) (a .routes)) in
+    holds-marked (a .destination) xs _ _ (c .before .before .before .before .before .before .before .with-status .ensures ∙ ap (withStatus DiscoveryUnderway) (c .before .before .before .before .before .before .before .before .before .before .before .route-or .ensures)) (c .before .before .before .before .before .before .put-at .ensures)
 
 pub mark-spec : {M : Type 1} → statement M
 mark-spec =
     tie.close
     (tie.spec
-    has-room-requires
-    refuse-requires
-    returns
+    place-of-requires
     route-or-requires
     with-status-requires
-    put-requires
-    note-requires
-    returns-2)
+    put-at-requires
+    same-length
+    same-length-2
+    same-length-3
+    returns)

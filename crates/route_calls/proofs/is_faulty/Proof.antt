@@ -22,7 +22,7 @@ returns-2 c =
     simp (sym (at .before .lacks-hop .ensures) ∙ at .if1 .left, sym (c .before .is-underway .ensures) ∙ not-true _ (c .if2 .taken))
 
 names-requires : tie.Need-names-requires
-names-requires c κs = c .before .before .before .before .before .pre
+names-requires c κs = c .before .before .before .before .before .before .before .before .pre
 
 returns-3 : tie.Need-returns-3
 returns-3 c =

@@ -1,42 +1,39 @@
--- The table is without the route either way; what the look-up finds is what is reported.
+-- The columns are without the route either way, and there are fewer routes exactly where there was one.
 -- Assumes nothing.
+use mathlib.Core.Path.{sym, ap, _∙_}
+use lib.Dec.{ltb}
+use lib.ListN.{length}
+use Rattle.route_table.specs.Table.{inColumns, rowsOf}
+use Rattle.route_table.proofs.Rows.{many}
+use Rattle.route_calls.proofs.Rules.{fewer-told}
 use borrow.Author.Needs.{needs}
-use mathlib.Core.Path.{sym, _∙_}
-use Rattle.standard.specs.Calls.{hasRoute}
-use Rattle.standard.specs.Ordered.{lookup}
-use Rattle.standard.specs.Route.{routeKey}
-use Rattle.route_table.specs.Table.{rowsOf}
-use Rattle.route_table.proofs.Rows.{looked-found, looked-missing}
-use Rattle.route_calls.specs.Answer.{removal}
 use Rattle.route_calls.proofs.remove_route.Statement.{statement}
 use Rattle.route_calls.proofs.remove_route.Tie as tie
 
 remove-requires : tie.Need-remove-requires
-remove-requires c κs = c .pre
+remove-requires c κs = search needs
 
-find-requires : tie.Need-find-requires
-find-requires c κs = c .before .pre
+same-length : tie.Need-same-length
+same-length c = search needs
 
-enum-told : tie.Need-enum-told
-enum-told c = search needs
+same-length-2 : tie.Need-same-length-2
+same-length-2 c = search needs
 
-enum-told-2 : tie.Need-enum-told-2
-enum-told-2 c = search needs
+same-length-3 : tie.Need-same-length-3
+same-length-3 c = search needs
 
 returns : tie.Need-returns
-unfolding removal hasRoute
 returns c =
-    let s = c .before .before .before .before in
-    let row = looked-missing (lookup routeKey (s .args .destination .0) (rowsOf (s .args .t))) (sym (c .enum-told2 .given .1) ∙ c .before .before .find .ensures) in
-    rw (c .before .before .before .remove .ensures, row)
-
-returns-2 : tie.Need-returns-2
-unfolding removal hasRoute
-returns-2 c =
-    let s = c .before .before .before .before in
-    let row = looked-found (lookup routeKey (s .args .destination .0) (rowsOf (s .args .t))) _ (sym (c .enum-told .given .1) ∙ c .before .before .find .ensures) in
-    rw (c .before .before .before .remove .ensures, row)
+    let s = c .before .before .before .before .before .before .before .before .before .before .before .before .before in
+    let a = s .args in
+    let t = inColumns (a .route-keys .now) (a .route-words .now) (a .route-usage .now) (a .routes) in
+    let left = c .before .before .before .before .before .before .remove .ensures in
+    let now = sym (many _ (left .formed)) ∙ ap length (left .rows) in
+    record {
+      said = (λ z. ltb (now z) (sym (many t (s .pre)) z)) ∙ fewer-told (a .destination .0) (rowsOf t);
+      left = left;
+    }
 
 pub remove-route-spec : {M : Type 1} → statement M
 remove-route-spec =
-    tie.close (tie.spec remove-requires find-requires enum-told enum-told-2 returns returns-2)
+    tie.close (tie.spec remove-requires same-length same-length-2 same-length-3 returns)

@@ -1,4 +1,5 @@
 -- Each counter is read from its own place.
+-- Assumes nothing.
 use mathlib.Core.Path.{_∙_}
 use Rattle.route_loads.specs.Loads.{putCounters}
 use borrow.Author.Needs.{needs}
@@ -22,4 +23,5 @@ unfolding putCounters
 returns c = c .load .ensures ∙ rw (c .before .byte3 .ensures, c .before .before .byte2 .ensures, c .before .before .before .byte .ensures)
 
 pub put-counters-spec : {M : Type 1} → statement M
-put-counters-spec = tie.close (tie.spec byte-requires byte-requires-2 byte-requires-3 load-requires returns)
+put-counters-spec =
+    tie.close (tie.spec byte-requires byte-requires-2 byte-requires-3 load-requires returns)

@@ -1,7 +1,8 @@
--- A place past the last is told; else the key is set.
-use mathlib.Core.Path.{_∙_}
-use borrow.Author.Tests.{le-leb, lt-leb}
+-- A place past the last and a number that the column does not hold are told; else the key is set.
+-- Assumes nothing.
+use native.Mathlib.Omega.{arith}
 use Rattle.route_loads.specs.Loads.{setRecordKey}
+use Rattle.route_loads.proofs.Within.{within}
 use borrow.Author.Needs.{needs}
 use Rattle.route_loads.proofs.set_record_key.Statement.{statement}
 use Rattle.route_loads.proofs.set_record_key.Tie as tie
@@ -17,23 +18,34 @@ no-call-requires c κs = search needs
 
 returns : tie.Need-returns
 unfolding setRecordKey
-returns c = rw (← c .before .before .before .at .ensures, le-leb 64 (c .before .before .before .at .result) (c .before .if1 .taken)) (c .no-call .ensures)
+returns c = rw (← c .before .before .before .at .ensures, ← c .before .before .at2 .ensures, c .before .if1 .taken) (c .no-call .ensures)
 
-mul-t : tie.Need-mul-t
-mul-t c = search needs
+cast-keys : tie.Need-cast-keys
+cast-keys c = omega (arith, within 64 (c .before .before .before .at .result) 65535 (c .before .before .at2 .result) (c .before .if1 .left))
 
-element-write-t : tie.Need-element-write-t
-element-write-t c = search needs
+mul-keys : tie.Need-mul-keys
+mul-keys c = omega (arith, within 64 (c .before .before .before .at .result) 65535 (c .before .before .at2 .result) (c .before .if1 .left))
 
-with-record-table-requires : tie.Need-with-record-table-requires
-with-record-table-requires c κs = search needs
+array-write-keys : tie.Need-array-write-keys
+array-write-keys c = within 64 (c .before .before .before .at .result) 65535 (c .before .before .at2 .result) (c .before .if1 .left) .0
 
 load-requires : tie.Need-load-requires
 load-requires c κs = search needs
 
 returns-2 : tie.Need-returns-2
 unfolding setRecordKey
-returns-2 c = rw (← c .before .before .before .before .before .at .ensures, ← c .before .before .before .before .at2 .ensures, lt-leb 64 (c .before .before .before .before .before .at .result) (c .before .before .before .if1 .left)) (c .load .ensures ∙ rw (c .before .with-record-table .ensures))
+returns-2 c = rw (← c .before .before .before .before .at .ensures, ← c .before .before .before .at2 .ensures, c .before .before .if1 .left) (c .load .ensures)
 
 pub set-record-key-spec : {M : Type 1} → statement M
-set-record-key-spec = tie.close (tie.spec at-requires at-requires-2 no-call-requires returns mul-t element-write-t with-record-table-requires load-requires returns-2)
+set-record-key-spec =
+    tie.close
+    (tie.spec
+    at-requires
+    at-requires-2
+    no-call-requires
+    returns
+    cast-keys
+    mul-keys
+    array-write-keys
+    load-requires
+    returns-2)

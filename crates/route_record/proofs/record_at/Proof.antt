@@ -1,15 +1,15 @@
 -- A place in use has the record of its entry and its row; from the count on there is none.
 -- Assumes nothing.
 use native.Mathlib.Omega.{arith}
-use mathlib.Core.Path.{sym, ap, _∙_}
-use lib.ListN.{getD}
-use Rattle.record_table.specs.declared.RecordLookup.the-variants.{Found, Missing}
-use Rattle.record_table.specs.Table.{blankRecord}
-use Rattle.relay_store.specs.Store.{rowAt}
-use Rattle.relay_store.proofs.Rows.{wide-row}
-use Rattle.route_record.specs.Answer.{rowFor, recordHeld}
-use Rattle.route_record.proofs.Held.{use-within, use-few, record-there, record-past}
-use Rattle.route_record.proofs.Relays.{row-relays}
+use mathlib.Core.Path.{ap, _∙_}
+use mathlib.Core.List.{map}
+use lib.ListN.{take}
+use Rattle.standard.specs.declared.RecordEntry.{RecordEntry}
+use Rattle.standard.specs.Route.{nwk}
+use Rattle.record_table.specs.Table.{inColumns}
+use Rattle.relay_store.specs.Store.{rowAt, relayList}
+use Rattle.route_record.proofs.Held.{use-within, use-few}
+use Rattle.route_record.proofs.Looked.{past-row, there-row}
 use borrow.Author.Needs.{needs}
 use Rattle.route_record.proofs.record_at.Statement.{statement}
 use Rattle.route_record.proofs.record_at.Tie as tie
@@ -18,45 +18,37 @@ no-relays-requires : tie.Need-no-relays-requires
 no-relays-requires c κs = search needs
 
 returns : tie.Need-returns
-unfolding recordHeld
 returns c =
-    let s = c .before .before .before in
-    (λ z. record { entry = Missing; relays = c .no-relays .ensures z })
-    ∙ ap rowFor (sym (record-past (s .args .t1) (s .args .store .now) (s .pre) (s .args .i) (omega (arith, c .before .if1 .taken))))
+    let s = c .before .before .before .before .before in
+    let a = s .args in
+    let t = inColumns (a .keys .now) (a .lengths .now) (a .count) in
+    past-row t (a .store .now) (s .pre) (a .i) (omega arith) _ (c .no-relays .ensures)
 
-mul-e : tie.Need-mul-e
-mul-e c = search needs
-
-element-copy-out-e : tie.Need-element-copy-out-e
-element-copy-out-e c = search needs
+entry-at-requires : tie.Need-entry-at-requires
+entry-at-requires c κs =
+    let s = c .before .before .before .before in
+    let a = s .args in
+    let t = inColumns (a .keys .now) (a .lengths .now) (a .count) in
+    let w = use-within t (a .store .now) (s .pre) (a .i) (omega arith) in
+    (omega (arith, s .pre .formed .ordered .long .0), omega (arith, s .pre .formed .ordered .long .1 .0))
 
 cast-relays-at : tie.Need-cast-relays-at
-cast-relays-at c = search needs
+cast-relays-at c = omega (arith)
 
 relays-at-requires : tie.Need-relays-at-requires
 relays-at-requires c κs =
-    let one = c .before .before in
-    let s = one .before .before in
-    let t = s .args .t1 in (
-      use-few t (s .args .store .now) (s .pre) (s .args .i) (omega (arith, one .if1 .left)),
-      use-within t (s .args .store .now) (s .pre) (s .args .i) (omega (arith, one .if1 .left)),
-      s .pre .agrees .places,
-    )
+    let s = c .before .before .before .before .before .before in
+    let a = s .args in
+    let t = inColumns (a .keys .now) (a .lengths .now) (a .count) in
+    let count = ap (λ (e : RecordEntry). e .«relay_count») (c .before .entry-at .ensures) in
+    (omega (arith, count, use-few t (a .store .now) (s .pre) (a .i)), use-within t (a .store .now) (s .pre) (a .i) (omega arith), s .pre .agrees .places)
 
 returns-2 : tie.Need-returns-2
-unfolding recordHeld
 returns-2 c =
-    let one = c .before .before .before in
-    let s = one .before .before in
-    let t = s .args .t1 in
-    let store = s .args .store .now in
-    let i = s .args .i in
-    let e = getD (t .entries) i blankRecord in
-    let small = use-few t store (s .pre) i (omega (arith, one .if1 .left)) in
-    let inside = use-within t store (s .pre) i (omega (arith, one .if1 .left)) in
-    let many = row-relays (e .«relay_count») (rowAt i store) (wide-row 64 i store (omega (arith, s .pre .agrees .places)) inside) small in
-    (λ z. record { entry = Found (record { destination = e .destination; «relay_count» = sym many z }); relays = c .relays-at .ensures z })
-    ∙ ap rowFor (sym (record-there t store (s .pre) i (omega (arith, one .if1 .left))))
+    let s = c .before .before .before .before .before .before .before in
+    let a = s .args in
+    let t = inColumns (a .keys .now) (a .lengths .now) (a .count) in
+    rw (c .before .before .entry-at .ensures) (there-row t (a .store .now) (s .pre) (a .i) (omega arith) _ (c .relays-at .ensures ∙ ap (λ (e : RecordEntry). relayList (map nwk (take (e .«relay_count») (rowAt (a .i) (a .store .now))))) (c .before .before .entry-at .ensures)))
 
 pub record-at-spec : {M : Type 1} → statement M
 record-at-spec =
@@ -64,8 +56,7 @@ record-at-spec =
     (tie.spec
     no-relays-requires
     returns
-    mul-e
-    element-copy-out-e
+    entry-at-requires
     cast-relays-at
     relays-at-requires
     returns-2)

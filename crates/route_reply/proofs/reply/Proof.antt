@@ -1,26 +1,31 @@
--- By what the two look-ups find, as the rule goes; what is found is held under its own key.
+-- By what the two places are, as the rule goes; what stands in a place is held under its own key.
 -- Assumes nothing.
-use mathlib.Core.Option.{none, some}
 use mathlib.Core.Path.{_≡_, sym, _∙_}
-use borrow.Author.Needs.{needs}
-use borrow.Author.Tests.{eq-eqb, ne-eqb}
-use Rattle.standard.specs.Discovery.{pairKey, discoveryKey}
-use Rattle.standard.specs.Ordered.{lookup}
-use Rattle.standard.specs.Reply.{replyTo, reply}
-use Rattle.standard.specs.Route.{routeKey}
-use Rattle.search_tables.specs.Packed.{tablesOf}
+use lib.ListN.{take}
+use Rattle.flat_map.specs.declared.Place.the-variants.{Found}
+use Rattle.flat_map.specs.Seek.{placeOf}
+use Rattle.standard.specs.Discovery.{pairKey}
+use native.Mathlib.Omega.{arith}
+use Rattle.search_tables.specs.Packed.{inColumns, tablesOf}
 use Rattle.route_table.proofs.Rows as routes
 use Rattle.discovery_table.proofs.Rows as discoveries
-use Rattle.route_reply.specs.Answer.{Held}
-use Rattle.route_reply.proofs.Rules.{held-by}
+use Rattle.route_reply.proofs.Rules.{leaves-as, no-pair, no-route, held, ours, theirs}
+use borrow.Author.Needs.{needs}
 use Rattle.route_reply.proofs.reply.Statement.{statement}
 use Rattle.route_reply.proofs.reply.Tie as tie
 
-find-requires : tie.Need-find-requires
-find-requires c κs = c .before .before .pre .discoveries
+-- the places of the pair and of the responder's route
+pair-at : (c : tie.After-i) → let a = c .before .before .before .before .before .before .before .before .before .before .before .args in Found (c .i .given .0 .0) ≡ placeOf (take (a .discoveries) (a .discovery-keys .now)) (pairKey (a .originator) (a .id))
+pair-at c = sym (c .i .given .1) ∙ c .before .before .place-of .ensures
 
-enum-known-d : tie.Need-enum-known-d
-enum-known-d c = search needs
+route-at : (c : tie.After-j) → let a = c .before .before .before .before .before .before .before .before .before .before .before .before .before .before .before .before .before .before .args in Found (c .j .given .0 .0) ≡ placeOf (take (a .routes) (a .route-keys .now)) (a .responder .0)
+route-at c = sym (c .j .given .1) ∙ c .before .before .place-of2 .ensures
+
+place-of-requires : tie.Need-place-of-requires
+place-of-requires c κs = search needs
+
+enum-known-i : tie.Need-enum-known-i
+enum-known-i c = search needs
 
 enum-told : tie.Need-enum-told
 enum-told c = search needs
@@ -28,39 +33,24 @@ enum-told c = search needs
 drop-reply-requires : tie.Need-drop-reply-requires
 drop-reply-requires c κs = search needs
 
--- what the look-ups say of the rows
-no-discovery : (c : tie.After-enum-told) → let a = c .before .before .before .before .before .args in lookup discoveryKey (pairKey (a .originator) (a .id)) (tablesOf (a .t) .discoveries) ≡ none
-no-discovery c =
-    let a = c .before .before .before .before .before .args in
-    discoveries.looked-missing (lookup discoveryKey (pairKey (a .originator) (a .id)) (tablesOf (a .t) .discoveries)) (sym (c .enum-told .given .1) ∙ c .before .before .find .ensures)
+same-length : tie.Need-same-length
+same-length c = search needs
 
-one-discovery : (c : tie.After-d) → let a = c .before .before .before .before .before .args in lookup discoveryKey (pairKey (a .originator) (a .id)) (tablesOf (a .t) .discoveries) ≡ some (c .d .given .0 .0)
-one-discovery c =
-    let a = c .before .before .before .before .before .args in
-    discoveries.looked-found (lookup discoveryKey (pairKey (a .originator) (a .id)) (tablesOf (a .t) .discoveries)) _ (sym (c .d .given .1) ∙ c .before .before .find .ensures)
-
-no-route : (c : tie.After-enum-told2) → let a = c .before .before .before .before .before .before .before .before .before .args in lookup routeKey (a .responder .0) (tablesOf (a .t) .routes) ≡ none
-no-route c =
-    let a = c .before .before .before .before .before .before .before .before .before .args in
-    routes.looked-missing (lookup routeKey (a .responder .0) (tablesOf (a .t) .routes)) (sym (c .enum-told2 .given .1) ∙ c .before .before .find2 .ensures)
-
-one-route : (c : tie.After-e) → let a = c .before .before .before .before .before .before .before .before .before .args in lookup routeKey (a .responder .0) (tablesOf (a .t) .routes) ≡ some (c .e .given .0 .0)
-one-route c =
-    let a = c .before .before .before .before .before .before .before .before .before .args in
-    routes.looked-found (lookup routeKey (a .responder .0) (tablesOf (a .t) .routes)) _ (sym (c .e .given .1) ∙ c .before .before .find2 .ensures)
-
-both-held : (c : tie.After-e) → Held (c .before .before .before .before .before .before .before .before .before .args .t) (c .before .before .before .before .d .given .0 .0) (c .e .given .0 .0)
-both-held c = held-by _ _ _ _ _ (one-discovery (c .before .before .before .before)) (one-route c)
+same-length-2 : tie.Need-same-length-2
+same-length-2 c = search needs
 
 returns : tie.Need-returns
-unfolding reply replyTo
-returns c = c .drop-reply .ensures ∙ sym (rw (no-discovery (c .before)))
+returns c =
+    let s = c .before .before .before .before .before .before .before .before .before .before .before .before in
+    let a = s .args in
+    let t = inColumns (a .route-keys .now) (a .route-words .now) (a .route-usage .now) (a .routes) (a .discovery-keys .now) (a .discovery-words .now) (a .discovery-ends .now) (a .discoveries) in
+    rw (c .drop-reply .ensures) (no-pair t (s .pre) (a .own) (a .originator) (a .responder) (a .sender) (a .id) (a .cost) _ (sym (c .before .enum-told .given .1) ∙ c .before .before .before .place-of .ensures))
 
-find-requires-2 : tie.Need-find-requires-2
-find-requires-2 c κs = search needs
+place-of-requires-2 : tie.Need-place-of-requires-2
+place-of-requires-2 c κs = search needs
 
-enum-known-e : tie.Need-enum-known-e
-enum-known-e c = search needs
+enum-known-j : tie.Need-enum-known-j
+enum-known-j c = search needs
 
 enum-told-2 : tie.Need-enum-told-2
 enum-told-2 c = search needs
@@ -68,43 +58,135 @@ enum-told-2 c = search needs
 drop-reply-requires-2 : tie.Need-drop-reply-requires-2
 drop-reply-requires-2 c κs = search needs
 
+same-length-3 : tie.Need-same-length-3
+same-length-3 c = search needs
+
+same-length-4 : tie.Need-same-length-4
+same-length-4 c = search needs
+
+same-length-5 : tie.Need-same-length-5
+same-length-5 c = search needs
+
+same-length-6 : tie.Need-same-length-6
+same-length-6 c = search needs
+
+same-length-7 : tie.Need-same-length-7
+same-length-7 c = search needs
+
 returns-2 : tie.Need-returns-2
-unfolding reply replyTo
-returns-2 c = c .drop-reply2 .ensures ∙ sym (rw (one-discovery (c .before .before .before .before .before), no-route (c .before)))
+returns-2 c =
+    let s = c .before .before .before .before .before .before .before .before .before .before .before .before .before .before .before .before .before .before .before in
+    let a = s .args in
+    let t = inColumns (a .route-keys .now) (a .route-words .now) (a .route-usage .now) (a .routes) (a .discovery-keys .now) (a .discovery-words .now) (a .discovery-ends .now) (a .discoveries) in
+    rw (c .drop-reply2 .ensures) (no-route t (s .pre) (a .own) (a .originator) (a .responder) (a .sender) (a .id) (a .cost) _ (pair-at (c .before .before .before .before .before .before .before .before)) _ (sym (c .before .enum-told2 .given .1) ∙ c .before .before .before .place-of2 .ensures))
+
+entry-at-requires : tie.Need-entry-at-requires
+entry-at-requires c κs =
+    let s = c .before .before .before .before .before .before .before .before .before .before .before .before .before .before .before .before .before .before .before .before .before in
+    let a = s .args in
+    let t = inColumns (a .route-keys .now) (a .route-words .now) (a .route-usage .now) (a .routes) (a .discovery-keys .now) (a .discovery-words .now) (a .discovery-ends .now) (a .discoveries) in
+    let l = discoveries.place-within (t .discoveries) (s .pre .discoveries) _ _ (pair-at (c .before .before .before .before .before .before .before .before .before .before)) in
+    (omega (arith, l, s .pre .discoveries .ordered .small, s .pre .discoveries .ordered .long .0), omega (arith, l, s .pre .discoveries .ordered .small, s .pre .discoveries .ordered .long .1 .0), omega (arith, l, s .pre .discoveries .ordered .small, s .pre .discoveries .ordered .long .1 .1 .0))
+
+entry-at-requires-2 : tie.Need-entry-at-requires-2
+entry-at-requires-2 c κs =
+    let s = c .before .before .before .before .before .before .before .before .before .before .before .before .before .before .before .before .before .before .before .before .before .before .before .before .before in
+    let a = s .args in
+    let t = inColumns (a .route-keys .now) (a .route-words .now) (a .route-usage .now) (a .routes) (a .discovery-keys .now) (a .discovery-words .now) (a .discovery-ends .now) (a .discoveries) in
+    routes.in-columns (t .routes) (s .pre .routes) _ (routes.place-within (t .routes) (s .pre .routes) _ _ (route-at (c .before .before .before .before .before .before .before)))
 
 reply-ours-requires : tie.Need-reply-ours-requires
-reply-ours-requires c κs = (c .before .before .before .before .before .before .before .before .before .before .before .before .before .pre, both-held (c .before .before .before .before))
+reply-ours-requires c κs =
+    let s = c .before .before .before .before .before .before .before .before .before .before .before .before .before .before .before .before .before .before .before .before .before .before .before .before .before .before .before .before .before .before .before .before .before .before in
+    let a = s .args in
+    let t = inColumns (a .route-keys .now) (a .route-words .now) (a .route-usage .now) (a .routes) (a .discovery-keys .now) (a .discovery-words .now) (a .discovery-ends .now) (a .discoveries) in
+    (s .pre, held t (s .pre) (a .own) (a .originator) (a .responder) (a .sender) (a .id) (a .cost) _ (pair-at (c .before .before .before .before .before .before .before .before .before .before .before .before .before .before .before .before .before .before .before .before .before .before .before)) _ (route-at (c .before .before .before .before .before .before .before .before .before .before .before .before .before .before .before .before)) _ _ (c .before .before .before .before .before .before .before .before .before .before .before .before .entry-at .ensures) (c .before .before .before .before .before .before .before .before .entry-at2 .ensures))
 
-reply-theirs-requires : tie.Need-reply-theirs-requires
-reply-theirs-requires c κs = (c .before .before .before .before .before .before .before .before .before .before .before .before .before .pre, both-held (c .before .before .before .before))
+same-length-8 : tie.Need-same-length-8
+same-length-8 c = search needs
+
+same-length-9 : tie.Need-same-length-9
+same-length-9 c = search needs
+
+same-length-10 : tie.Need-same-length-10
+same-length-10 c = search needs
+
+same-length-11 : tie.Need-same-length-11
+same-length-11 c = search needs
+
+same-length-12 : tie.Need-same-length-12
+same-length-12 c = search needs
 
 returns-3 : tie.Need-returns-3
-unfolding reply replyTo
 returns-3 c =
-    let at = c .before .before .before .before .before in
-    c .reply-ours .ensures ∙ sym (rw (eq-eqb _ _ (c .before .if1 .taken), one-discovery (at .before .before .before .before), one-route at))
+    let s = c .before .before .before .before .before .before .before .before .before .before .before .before .before .before .before .before .before .before .before .before .before .before .before .before .before .before .before .before .before .before .before .before .before .before .before .before .before .before .before .before .before .before .before in
+    let a = s .args in
+    let t = inColumns (a .route-keys .now) (a .route-words .now) (a .route-usage .now) (a .routes) (a .discovery-keys .now) (a .discovery-words .now) (a .discovery-ends .now) (a .discoveries) in
+    leaves-as _ (tablesOf t) _ _ _ (ours t (s .pre) (a .own) (a .originator) (a .responder) (a .sender) (a .id) (a .cost) _ (pair-at (c .before .before .before .before .before .before .before .before .before .before .before .before .before .before .before .before .before .before .before .before .before .before .before .before .before .before .before .before .before .before .before .before)) _ (route-at (c .before .before .before .before .before .before .before .before .before .before .before .before .before .before .before .before .before .before .before .before .before .before .before .before .before)) _ _ (c .before .before .before .before .before .before .before .before .before .before .before .before .before .before .before .before .before .before .before .before .before .entry-at .ensures) (c .before .before .before .before .before .before .before .before .before .before .before .before .before .before .before .before .before .entry-at2 .ensures) (c .before .before .before .before .before .before .before .before .before .before .before .before .before .before .if1 .taken)) (c .before .before .before .before .before .before .before .before .reply-ours .ensures)
+
+reply-theirs-requires : tie.Need-reply-theirs-requires
+reply-theirs-requires c κs =
+    let s = c .before .before .before .before .before .before .before .before .before .before .before .before .before .before .before .before .before .before .before .before .before .before .before .before .before .before .before .before .before .before .before .before .before .before in
+    let a = s .args in
+    let t = inColumns (a .route-keys .now) (a .route-words .now) (a .route-usage .now) (a .routes) (a .discovery-keys .now) (a .discovery-words .now) (a .discovery-ends .now) (a .discoveries) in
+    (s .pre, held t (s .pre) (a .own) (a .originator) (a .responder) (a .sender) (a .id) (a .cost) _ (pair-at (c .before .before .before .before .before .before .before .before .before .before .before .before .before .before .before .before .before .before .before .before .before .before .before)) _ (route-at (c .before .before .before .before .before .before .before .before .before .before .before .before .before .before .before .before)) _ _ (c .before .before .before .before .before .before .before .before .before .before .before .before .entry-at .ensures) (c .before .before .before .before .before .before .before .before .entry-at2 .ensures))
+
+same-length-13 : tie.Need-same-length-13
+same-length-13 c = search needs
+
+same-length-14 : tie.Need-same-length-14
+same-length-14 c = search needs
+
+same-length-15 : tie.Need-same-length-15
+same-length-15 c = search needs
+
+same-length-16 : tie.Need-same-length-16
+same-length-16 c = search needs
+
+same-length-17 : tie.Need-same-length-17
+same-length-17 c = search needs
 
 returns-4 : tie.Need-returns-4
-unfolding reply replyTo
 returns-4 c =
-    let at = c .before .before .before .before .before in
-    c .reply-theirs .ensures ∙ sym (rw (ne-eqb _ _ (c .before .if1 .left), one-discovery (at .before .before .before .before), one-route at))
+    let s = c .before .before .before .before .before .before .before .before .before .before .before .before .before .before .before .before .before .before .before .before .before .before .before .before .before .before .before .before .before .before .before .before .before .before .before .before .before .before .before .before .before .before .before .before .before in
+    let a = s .args in
+    let t = inColumns (a .route-keys .now) (a .route-words .now) (a .route-usage .now) (a .routes) (a .discovery-keys .now) (a .discovery-words .now) (a .discovery-ends .now) (a .discoveries) in
+    leaves-as _ (tablesOf t) _ _ _ (theirs t (s .pre) (a .own) (a .originator) (a .responder) (a .sender) (a .id) (a .cost) _ (pair-at (c .before .before .before .before .before .before .before .before .before .before .before .before .before .before .before .before .before .before .before .before .before .before .before .before .before .before .before .before .before .before .before .before .before .before)) _ (route-at (c .before .before .before .before .before .before .before .before .before .before .before .before .before .before .before .before .before .before .before .before .before .before .before .before .before .before .before)) _ _ (c .before .before .before .before .before .before .before .before .before .before .before .before .before .before .before .before .before .before .before .before .before .before .before .entry-at .ensures) (c .before .before .before .before .before .before .before .before .before .before .before .before .before .before .before .before .before .before .before .entry-at2 .ensures) (c .before .before .before .before .before .before .before .before .before .before .before .before .before .before .before .before .if1 .left)) (c .before .before .before .before .before .before .before .before .before .before .reply-theirs .ensures)
 
 pub reply-spec : {M : Type 1} → statement M
 reply-spec =
     tie.close
     (tie.spec
-    find-requires
-    enum-known-d
+    place-of-requires
+    enum-known-i
     enum-told
     drop-reply-requires
+    same-length
+    same-length-2
     returns
-    find-requires-2
-    enum-known-e
+    place-of-requires-2
+    enum-known-j
     enum-told-2
     drop-reply-requires-2
+    same-length-3
+    same-length-4
+    same-length-5
+    same-length-6
+    same-length-7
     returns-2
+    entry-at-requires
+    entry-at-requires-2
     reply-ours-requires
-    reply-theirs-requires
+    same-length-8
+    same-length-9
+    same-length-10
+    same-length-11
+    same-length-12
     returns-3
+    reply-theirs-requires
+    same-length-13
+    same-length-14
+    same-length-15
+    same-length-16
+    same-length-17
     returns-4)

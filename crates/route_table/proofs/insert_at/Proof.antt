@@ -1,91 +1,70 @@
--- At each turn the rest of the shift, done now, gives the whole shift; at the last place nothing is left of it.
--- The measure is the places left.
-use Prim.Native.Nat.{_-_}
-use mathlib.Core.Path.{_≡_, refl, sym, _∙_}
+-- Each column is shifted from the place where the destination is missing, and so the route is put in among the rows.
+-- Assumes nothing.
+use Prim.Native.Nat.{ℕ, _+_}
+use mathlib.Core.Path.{sym, ap, _∙_, subst}
 use native.Mathlib.Omega.{arith}
-use borrow.Author.Needs.{needs}
-use lib.ListN.{length, length-set}
 use Rattle.flat_map.specs.Shift.{shiftIn}
-use Rattle.flat_map.proofs.Shift.{shift-in-step, shift-in-end, unmapped}
+use Rattle.standard.specs.Ordered as ordered
+use Rattle.standard.specs.Route.{routeKey}
+use Rattle.route_table.specs.Codec.{InRange}
+use Rattle.route_table.specs.Table.{RouteTable, inColumns, rowsOf, Holds}
+use Rattle.route_table.proofs.Rows.{missing-place, in-holds}
+use borrow.Author.Needs.{needs}
 use Rattle.route_table.proofs.insert_at.Statement.{statement}
 use Rattle.route_table.proofs.insert_at.Tie as tie
 
-abbrev Inv-loop : tie.InvT-loop
-Inv-loop t i key u₀ k₀ x₀ j₀ u k x j =
-    (length (u .keys) ≡ 64)
-    × (length (u .entries) ≡ 64)
-    × (shiftIn j k (u .keys) ≡ shiftIn j₀ k₀ (u₀ .keys))
-    × (shiftIn j x (u .entries) ≡ shiftIn j₀ x₀ (u₀ .entries))
+word-of-requires : tie.Need-word-of-requires
+word-of-requires c κs = search needs
 
-abbrev μ-loop : tie.MeasureT-loop
-μ-loop t i key u₀ k₀ x₀ j₀ u k x j = 64 - j
+shift16-requires : tie.Need-shift16-requires
+shift16-requires c κs =
+    let s = c .before .before .before .before .before in
+    let a = s .args in
+    let t = inColumns (a .keys .now) (a .words .now) (a .usage .now) (a .count) in
+    omega (arith, missing-place t (s .pre .0) _ _ (s .pre .1), s .pre .2, s .pre .0 .ordered .long .0)
 
-loop-holds : tie.Need-loop-holds Inv-loop μ-loop
-loop-holds c = (search needs, search (needs, unmapped), refl, refl)
+shift64-requires : tie.Need-shift64-requires
+shift64-requires c κs =
+    let s = c .before .before .before .before .before .before .before .before .before in
+    let a = s .args in
+    let t = inColumns (a .keys .now) (a .words .now) (a .usage .now) (a .count) in
+    omega (arith, missing-place t (s .pre .0) _ _ (s .pre .1), s .pre .2, s .pre .0 .ordered .long .1 .0)
 
-mul-k2 : tie.Need-mul-k2 Inv-loop μ-loop
-mul-k2 c = search needs
+shift32-requires : tie.Need-shift32-requires
+shift32-requires c κs =
+    let s = c .before .before .before .before .before .before .before .before .before .before .before .before .before in
+    let a = s .args in
+    let t = inColumns (a .keys .now) (a .words .now) (a .usage .now) (a .count) in
+    omega (arith, missing-place t (s .pre .0) _ _ (s .pre .1), s .pre .2, s .pre .0 .ordered .long .1 .1 .0)
 
-element-copy-out-k2 : tie.Need-element-copy-out-k2 Inv-loop μ-loop
-element-copy-out-k2 c = search needs
+same-length : tie.Need-same-length
+same-length c = search needs
 
-mul-x2 : tie.Need-mul-x2 Inv-loop μ-loop
-mul-x2 c = search needs
+same-length-2 : tie.Need-same-length-2
+same-length-2 c = search needs
 
-element-copy-out-x2 : tie.Need-element-copy-out-x2 Inv-loop μ-loop
-element-copy-out-x2 c = search needs
+same-length-3 : tie.Need-same-length-3
+same-length-3 c = search needs
 
-mul-u : tie.Need-mul-u Inv-loop μ-loop
-mul-u c = search needs
-
-element-write-u : tie.Need-element-write-u Inv-loop μ-loop
-element-write-u c = search needs
-
-mul-x : tie.Need-mul-x Inv-loop μ-loop
-mul-x c = search needs
-
-element-set-from-x : tie.Need-element-set-from-x Inv-loop μ-loop
-element-set-from-x c = search needs
-
-add-j : tie.Need-add-j Inv-loop μ-loop
-add-j c = search needs
-
-loop-less : tie.Need-loop-less Inv-loop μ-loop
-loop-less c = search needs
-
-loop-again : tie.Need-loop-again Inv-loop μ-loop
-loop-again c =
-    let v = c .before .before .before .loop in
-    (simp length-set (v .inv .0), simp length-set (v .inv .1), shift-in-step (v .u .keys) (v .j) (v .k) _ (omega arith) ∙ v .inv .2, shift-in-step (v .u .entries) (v .j) (v .x) _ (omega arith) ∙ v .inv .3)
-
-add-u : tie.Need-add-u Inv-loop μ-loop
-add-u c = search needs
-
-returns : tie.Need-returns Inv-loop μ-loop
+returns : tie.Need-returns
 returns c =
-    let v = c .before .before .loop in
-    let a = c .before .before .before .args in
-    let ks : v .u .keys ≡ shiftIn (a .i) (a .key) (a .t .keys) = sym (shift-in-end (v .u .keys) (v .j) (v .k) (omega arith)) ∙ v .inv .2 in
-    let es : v .u .entries ≡ shiftIn (a .i) (a .e) (a .t .entries) = sym (shift-in-end (v .u .entries) (v .j) (v .x) (omega arith)) ∙ v .inv .3 in
-    cc
+    let s = c .before .before .before .before .before .before .before .before .before .before .before .before .before .before .before .before in
+    let a = s .args in
+    let t = inColumns (a .keys .now) (a .words .now) (a .usage .now) (a .count) in
+    let r : InRange (a .e) = record { hop = omega (arith, s .good .1 .1 .1 .1 .1 .0); cost = omega (arith, s .good .1 .1 .1 .1 .1 .0); recent = omega (arith, s .good .1 .1 .1 .1 .1 .0) } in
+    let words = c .before .before .before .before .before .before .shift64 .ensures ∙ ap (λ (n : ℕ). shiftIn (a .i) n (a .words .now)) (c .before .before .before .before .before .before .before .before .before .before .before .before .word-of .ensures) in
+    subst (λ (x : RouteTable). Holds x (ordered.put routeKey (a .e) (rowsOf t))) (sym (λ z. inColumns (c .before .before .before .before .before .before .before .before .before .before .shift16 .ensures z) (words z) (c .before .before .shift32 .ensures z) (a .count + 1)))
+    (in-holds t (s .pre .0) (a .e) r (a .i) (s .pre .1) (s .pre .2))
 
 pub insert-at-spec : {M : Type 1} → statement M
 insert-at-spec =
     tie.close
     (tie.spec
-    Inv-loop
-    μ-loop
-    loop-holds
-    mul-k2
-    element-copy-out-k2
-    mul-x2
-    element-copy-out-x2
-    mul-u
-    element-write-u
-    mul-x
-    element-set-from-x
-    add-j
-    loop-less
-    loop-again
-    add-u
+    word-of-requires
+    shift16-requires
+    shift64-requires
+    shift32-requires
+    same-length
+    same-length-2
+    same-length-3
     returns)

@@ -1,57 +1,87 @@
--- The entry at the key's place shifted out is `remove` on the rows; a key that is missing leaves them.
+-- A route that is there is taken out of every column, and so out of the rows; one that is missing leaves them.
 -- Assumes nothing.
-use Prim.Native.Nat.{_<_}
-use mathlib.Core.Path.{sym, ap, _∙_}
+use Prim.Native.Nat.{_-_}
+use mathlib.Core.Path.{sym, _∙_, subst}
 use native.Mathlib.Omega.{arith}
-use borrow.Author.Needs.{needs}
-use Rattle.flat_map.proofs.Table.{found-within, missing-row, removed, remove-absent}
 use Rattle.standard.specs.Ordered as ordered
 use Rattle.standard.specs.Route.{routeKey}
-use Rattle.route_table.specs.Table as table
-use Rattle.route_table.proofs.Rows.{as-table, table-view}
+use Rattle.route_table.specs.Table.{RouteTable, inColumns, rowsOf, Holds}
+use Rattle.route_table.proofs.Rows.{in-columns, place-within, out-holds, none-out}
+use borrow.Author.Needs.{needs}
 use Rattle.route_table.proofs.remove.Statement.{statement}
 use Rattle.route_table.proofs.remove.Tie as tie
 
-cast-index-of : tie.Need-cast-index-of
-cast-index-of c = search needs
-
-index-of-requires : tie.Need-index-of-requires
-index-of-requires c κs = search needs
+place-of-requires : tie.Need-place-of-requires
+place-of-requires c κs = search needs
 
 enum-known-place : tie.Need-enum-known-place
 enum-known-place c = search needs
 
-within : (c : tie.After-place) → c .place .given .0 .0 < c .before .before .before .before .before .before .before .args .t1 .count
-within c =
-    let s = c .before .before .before .before .before .before .before in
-    let t = s .args .t1 in
-    found-within 64 routeKey table.blankRoute (t .keys) (t .entries) (t .count) (s .pre) _ _ (sym (c .place .given .1) ∙ c .before .before .index-of .ensures)
-
 remove-at-requires : tie.Need-remove-at-requires
 remove-at-requires c κs =
-    let s = c .before .before .before .before .before .before .before .before in
-    (omega (arith, within (c .before), s .pre .small), omega (arith, within (c .before)))
+    let s = c .before .before .before .before .before .before .before .before .before .before .before .before .before in
+    let a = s .args in
+    let t = inColumns (a .keys .now) (a .words .now) (a .usage .now) (a .count) in
+    in-columns t (s .pre) _ (place-within t (s .pre) _ _ (sym (c .before .before .before .before .place .given .1) ∙ c .before .before .before .before .before .before .place-of .ensures))
+
+sub-result : tie.Need-sub-result
+sub-result c =
+    let s = c .before .before .before .before .before .before .before .before .before .before .before .before .before .before .before .before .before .before .before .before in
+    let a = s .args in
+    let t = inColumns (a .keys .now) (a .words .now) (a .usage .now) (a .count) in
+    omega (arith, place-within t (s .pre) _ _ (sym (c .before .before .before .before .before .before .before .before .before .before .before .place .given .1) ∙ c .before .before .before .before .before .before .before .before .before .before .before .before .before .place-of .ensures))
 
 enum-told : tie.Need-enum-told
 enum-told c = search needs
 
+same-length : tie.Need-same-length
+same-length c = search needs
+
+same-length-2 : tie.Need-same-length-2
+same-length-2 c = search needs
+
+same-length-3 : tie.Need-same-length-3
+same-length-3 c = search needs
+
 returns : tie.Need-returns
 returns c =
-    let at = c .before .before in
-    let s = at .before .before .before .before .before .before .before in
-    let t = s .args .t1 in
-    c .remove-at .ensures
-    ∙ as-table (table.removed t (at .place .given .0 .0)) (ordered.remove routeKey (s .args .destination .0) (table.rowsOf t))
-    (removed 64 routeKey table.blankRoute (t .keys) (t .entries) (t .count) (s .pre) (s .args .destination .0) _ (sym (at .place .given .1) ∙ at .before .before .index-of .ensures))
+    let s = c .before .before .before .before .before .before .before .before .before .before .before .before .before .before .before .before .before .before .before .before in
+    let a = s .args in
+    let t = inColumns (a .keys .now) (a .words .now) (a .usage .now) (a .count) in
+    let q = c .before .before .before .before .before .before .remove-at .ensures in
+    subst (λ (x : RouteTable). Holds x (ordered.remove routeKey (a .destination .0) (rowsOf t))) (sym (λ z. inColumns (q .0 z) (q .1 z) (q .2 z) (a .count - 1)))
+    (out-holds t (s .pre) (a .destination .0) _ (sym (c .before .before .before .before .before .before .before .before .before .before .before .place .given .1) ∙ c .before .before .before .before .before .before .before .before .before .before .before .before .before .place-of .ensures))
+
+same-length-4 : tie.Need-same-length-4
+same-length-4 c = search needs
+
+same-length-5 : tie.Need-same-length-5
+same-length-5 c = search needs
+
+same-length-6 : tie.Need-same-length-6
+same-length-6 c = search needs
 
 returns-2 : tie.Need-returns-2
 returns-2 c =
-    let s = c .before .before .before .before .before .before .before in
-    let t = s .args .t1 in
-    let row = missing-row 64 routeKey table.blankRoute (t .keys) (t .entries) (t .count) (s .pre) _ _ (sym (c .enum-told .given .1) ∙ c .before .before .index-of .ensures) in
-    table-view t (s .pre) ∙ ap table.tableOf (sym (remove-absent routeKey table.blankRoute (s .args .destination .0) (table.rowsOf t) row))
+    let s = c .before .before .before .before .before .before .before .before .before in
+    let a = s .args in
+    let t = inColumns (a .keys .now) (a .words .now) (a .usage .now) (a .count) in
+    none-out t (s .pre) (a .destination .0) _ (sym (c .enum-told .given .1) ∙ c .before .before .place-of .ensures)
 
 pub remove-spec : {M : Type 1} → statement M
 remove-spec =
     tie.close
-    (tie.spec cast-index-of index-of-requires enum-known-place remove-at-requires enum-told returns returns-2)
+    (tie.spec
+    place-of-requires
+    enum-known-place
+    remove-at-requires
+    sub-result
+    enum-told
+    same-length
+    same-length-2
+    same-length-3
+    returns
+    same-length-4
+    same-length-5
+    same-length-6
+    returns-2)

@@ -17,10 +17,13 @@ returns-2 c =
     let at = c .before .before .before in
     simp (sym (at .before .is-active .ensures) ∙ not-false _ (at .if1 .left), ne-eqb _ _ (c .if2 .taken))
 
+with-status-requires : tie.Need-with-status-requires
+with-status-requires c κs = search needs
+
 returns-3 : tie.Need-returns-3
 returns-3 c =
-    let at = c .before .before .before .before .before in
-    simp (sym (at .before .is-active .ensures) ∙ not-false _ (at .if1 .left), eq-eqb _ _ (c .before .before .if2 .left))
+    let at = c .before .before .before .before in
+    c .with-status .ensures ∙ simp (sym (at .before .is-active .ensures) ∙ not-false _ (at .if1 .left), eq-eqb _ _ (c .before .if2 .left))
 
 pub unlinked-entry-spec : {M : Type 1} → statement M
-unlinked-entry-spec = tie.close (tie.spec is-active-requires returns returns-2 returns-3)
+unlinked-entry-spec = tie.close (tie.spec is-active-requires returns returns-2 with-status-requires returns-3)

@@ -1,16 +1,12 @@
--- Each route restored keeps the state well formed. The measure is the routes left.
+-- The loop ends since i goes up to the bound; nothing is promised of the state.
+-- Assumes nothing.
 use Prim.Native.Nat.{_-_}
-use Rattle.routing.specs.State.{WellFormed}
-use mathlib.Core.Path.{sym, subst}
-use Rattle.routing.specs.declared.DoneOutcome.{DoneOutcome}
-use Rattle.routing.proofs.State.{fresh-formed}
-use Rattle.routing.proofs.KeptRoutes.{restore-route-kept}
 use borrow.Author.Needs.{needs}
 use Rattle.speed_routes.proofs.with_routes.Statement.{statement}
 use Rattle.speed_routes.proofs.with_routes.Tie as tie
 
 abbrev Inv-loop : tie.InvT-loop
-Inv-loop size s₀ i₀ s i = WellFormed s
+Inv-loop size s₀ i₀ s i = Unit {0}
 
 abbrev μ-loop : tie.MeasureT-loop
 μ-loop size s₀ i₀ s i = size - i
@@ -19,7 +15,7 @@ new-requires : tie.Need-new-requires Inv-loop μ-loop
 new-requires c κs = search needs
 
 loop-holds : tie.Need-loop-holds Inv-loop μ-loop
-loop-holds c = subst WellFormed (sym (c .new .ensures)) fresh-formed
+loop-holds c = tt
 
 add-i : tie.Need-add-i Inv-loop μ-loop
 add-i c = search needs
@@ -31,7 +27,7 @@ loop-less : tie.Need-loop-less Inv-loop μ-loop
 loop-less c = search needs
 
 loop-again : tie.Need-loop-again Inv-loop μ-loop
-loop-again c = subst (λ (x : DoneOutcome). WellFormed (x .state)) (sym (c .before .restore-route .ensures)) (restore-route-kept _ (c .before .before .before .loop .inv) _ _ _)
+loop-again c = tt
 
 returns : tie.Need-returns Inv-loop μ-loop
 returns c = search needs

@@ -2,14 +2,15 @@
 use lib.ListN.{length}
 use denote.Ref.{now}
 use borrow.Author.Tests.{eq-eqb, ne-eqb}
-use Rattle.image.specs.Good.{goodImage, storeLimits}
+use Rattle.cells.specs.Layout.{imageLength}
+use Rattle.image.specs.Good.{goodImage, addressLimits}
 use borrow.Author.Needs.{needs}
 use Rattle.image.proofs.good.good.Statement.{statement}
 use Rattle.image.proofs.good.good.Tie as tie
 
 returns : tie.Need-returns
 unfolding goodImage
-returns c = rw (ne-eqb (length (now (c .before .before .args .image))) 5450 (c .if1 .taken))
+returns c = rw (ne-eqb (length (now (c .before .before .args .image))) imageLength (c .if1 .taken))
 
 head-fits-requires : tie.Need-head-fits-requires
 head-fits-requires c κs = search needs
@@ -36,8 +37,8 @@ fits-requires : tie.Need-fits-requires
 fits-requires c κs = search needs
 
 returns-2 : tie.Need-returns-2
-unfolding goodImage storeLimits
-returns-2 c = rw (eq-eqb (length (now (c .before .before .before .before .before .before .before .before .args .image))) 5450 (c .before .before .before .before .before .before .if1 .left), c .fits2 .ensures, c .before .before .before .neighbors-fit .ensures, c .before .before .before .before .routing-fits .ensures, c .before .before .before .before .before .head-fits .ensures)
+unfolding goodImage addressLimits
+returns-2 c = rw (eq-eqb (length (now (c .before .before .before .before .before .before .before .before .args .image))) imageLength (c .before .before .before .before .before .before .if1 .left), c .fits2 .ensures, c .before .before .before .neighbors-fit .ensures, c .before .before .before .before .routing-fits .ensures, c .before .before .before .before .before .head-fits .ensures)
 
 pub good-spec : {M : Type 1} → statement M
 good-spec =

@@ -1,5 +1,5 @@
 -- The mark, the version and the counters are compared.
-use Rattle.image.specs.Good.{headFits, counterLimits}
+use Rattle.image.specs.Good.{headFits, byteLimits}
 use borrow.Author.Needs.{needs}
 use Rattle.image.proofs.good.head_fits.Statement.{statement}
 use Rattle.image.proofs.good.head_fits.Tie as tie
@@ -26,7 +26,7 @@ fits-requires : tie.Need-fits-requires
 fits-requires c κs = search needs
 
 returns : tie.Need-returns
-unfolding headFits counterLimits
+unfolding headFits byteLimits
 returns c = rw (c .fits2 .ensures, c .before .before .before .at2 .ensures, c .before .before .before .before .at .ensures)
 
 pub head-fits-spec : {M : Type 1} → statement M

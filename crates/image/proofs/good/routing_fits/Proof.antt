@@ -1,5 +1,5 @@
--- The rows of each table are compared.
-use Rattle.image.specs.Good.{routingFits, routeLimits, discoveryLimits, recordLimits}
+-- The numbers of each column are compared.
+use Rattle.image.specs.Good.{routingFits, byteLimits, addressLimits, longLimits}
 use borrow.Author.Needs.{needs}
 use Rattle.image.proofs.good.routing_fits.Statement.{statement}
 use Rattle.image.proofs.good.routing_fits.Tie as tie
@@ -49,9 +49,39 @@ slice-aggregate-fits-3 c = search needs
 fits-requires-3 : tie.Need-fits-requires-3
 fits-requires-3 c κs = search needs
 
+sub-fits-4 : tie.Need-sub-fits-4
+sub-fits-4 c = search needs
+
+part-fits-start-4 : tie.Need-part-fits-start-4
+part-fits-start-4 c = search needs
+
+part-fits-end-4 : tie.Need-part-fits-end-4
+part-fits-end-4 c = search needs
+
+slice-aggregate-fits-4 : tie.Need-slice-aggregate-fits-4
+slice-aggregate-fits-4 c = search needs
+
+fits-requires-4 : tie.Need-fits-requires-4
+fits-requires-4 c κs = search needs
+
+sub-fits-5 : tie.Need-sub-fits-5
+sub-fits-5 c = search needs
+
+part-fits-start-5 : tie.Need-part-fits-start-5
+part-fits-start-5 c = search needs
+
+part-fits-end-5 : tie.Need-part-fits-end-5
+part-fits-end-5 c = search needs
+
+slice-aggregate-fits-5 : tie.Need-slice-aggregate-fits-5
+slice-aggregate-fits-5 c = search needs
+
+fits-requires-5 : tie.Need-fits-requires-5
+fits-requires-5 c κs = search needs
+
 returns : tie.Need-returns
-unfolding routingFits routeLimits discoveryLimits recordLimits
-returns c = rw (c .fits4 .ensures, c .before .before .before .fits3 .ensures, c .before .before .before .before .before .before .fits2 .ensures)
+unfolding routingFits byteLimits addressLimits longLimits
+returns c = rw (c .fits6 .ensures, c .before .before .before .fits5 .ensures, c .before .before .before .before .before .before .fits4 .ensures, c .before .before .before .before .before .before .before .before .before .fits3 .ensures, c .before .before .before .before .before .before .before .before .before .before .before .before .fits2 .ensures)
 
 pub routing-fits-spec : {M : Type 1} → statement M
 routing-fits-spec =
@@ -72,4 +102,14 @@ routing-fits-spec =
     part-fits-end-3
     slice-aggregate-fits-3
     fits-requires-3
+    sub-fits-4
+    part-fits-start-4
+    part-fits-end-4
+    slice-aggregate-fits-4
+    fits-requires-4
+    sub-fits-5
+    part-fits-start-5
+    part-fits-end-5
+    slice-aggregate-fits-5
+    fits-requires-5
     returns)

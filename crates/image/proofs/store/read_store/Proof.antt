@@ -7,13 +7,15 @@ use denote.Ref.{now}
 use lib.ListN.{take, length, set, length-set, replicate, length-replicate}
 use Rattle.numbers.specs.Read.{numberAt, listed}
 use Rattle.numbers.proofs.Listed.{read-all, read-next, read-done}
+use Rattle.cells.specs.Layout.{storePlace}
+use Rattle.cells.specs.Keys.{cutAt}
 use Rattle.image.specs.Image.{storeIn}
 use borrow.Author.Needs.{needs}
 use Rattle.image.proofs.store.read_store.Statement.{statement}
 use Rattle.image.proofs.store.read_store.Tie as tie
 
 abbrev Inv-loop : tie.InvT-loop
-Inv-loop image store₀ i₀ store i = (i ≤ 2048) × (length store ≡ 2048) × (take i store ++ listed (λ k. numberAt image (3402 + k) % 65536) i (2048 - i) ≡ listed (λ k. numberAt image (3402 + k) % 65536) 0 2048)
+Inv-loop image store₀ i₀ store i = (i ≤ 2048) × (length store ≡ 2048) × (take i store ++ listed (λ k. numberAt image (storePlace + k) % 65536) i (2048 - i) ≡ listed (λ k. numberAt image (storePlace + k) % 65536) 0 2048)
 
 abbrev μ-loop : tie.MeasureT-loop
 μ-loop image store₀ i₀ store i = 2048 - i
@@ -46,7 +48,7 @@ loop-again : tie.Need-loop-again Inv-loop μ-loop
 loop-again c =
     let l = c .before .before .loop in
     let a = c .before .before .before .before .args in
-    let f : ℕ → ℕ = λ k. numberAt (now (a .image)) (3402 + k) % 65536 in
+    let f : ℕ → ℕ = λ k. numberAt (now (a .image)) (storePlace + k) % 65536 in
     let h : l .i < 2048 = search needs in (
       search needs,
       simp length-set (l .inv .1),
@@ -54,12 +56,12 @@ loop-again c =
     )
 
 returns : tie.Need-returns Inv-loop μ-loop
-unfolding storeIn
+unfolding storeIn cutAt
 returns c =
     let l = c .before .loop in
     let a = c .before .before .before .args in
     let h : 2048 ≤ l .i = search needs in
-    sym (read-done (λ (k : ℕ). numberAt (now (a .image)) (3402 + k) % 65536) 2048 (l .store) (l .i) (l .inv .1) h) ∙ l .inv .2
+    sym (read-done (λ (k : ℕ). numberAt (now (a .image)) (storePlace + k) % 65536) 2048 (l .store) (l .i) (l .inv .1) h) ∙ l .inv .2
 
 pub read-store-spec : {M : Type 1} → statement M
 read-store-spec =

@@ -7,13 +7,14 @@ use lib.ListN.{length, drop, getD}
 use lib.Seq.{sets, length-sets}
 use Rattle.flat_map.proofs.Shift.{unmapped}
 use Rattle.cells.proofs.Writing.{put-row, rows-done}
+use Rattle.cells.specs.Layout.{neighborRowsPlace}
 use Rattle.neighbor_values.specs.Values.{neighborNumbers}
 use borrow.Author.Needs.{needs}
 use Rattle.neighbor_image.proofs.neighbors.write_neighbor_rows.Statement.{statement}
 use Rattle.neighbor_image.proofs.neighbors.write_neighbor_rows.Tie as tie
 
 abbrev Inv-loop : tie.InvT-loop
-Inv-loop image₀ t i₀ image i = (i ≤ 64) × (length image ≡ length image₀) × (sets image (1225 + i * 27) (flatMap neighborNumbers (drop i (t .entries))) ≡ sets image₀ 1225 (flatMap neighborNumbers (t .entries)))
+Inv-loop image₀ t i₀ image i = (i ≤ 64) × (length image ≡ length image₀) × (sets image (neighborRowsPlace + i * 27) (flatMap neighborNumbers (drop i (t .entries))) ≡ sets image₀ neighborRowsPlace (flatMap neighborNumbers (t .entries)))
 
 abbrev μ-loop : tie.MeasureT-loop
 μ-loop image₀ t i₀ image i = 64 - i
@@ -53,9 +54,9 @@ loop-again c =
     let h : l .i < length (s .args .t2 .entries) = omega (arith, long s, c .before .before .before .before .before .loop-test .taken) in
     let e = c .before .before .write-neighbor .ensures in (
       search needs,
-      ap length e ∙ length-sets (l .image) (1225 + l .i * 27) (neighborNumbers (getD (s .args .t2 .entries) (l .i) _)) ∙ l .inv .1,
-      ap (λ (m : List ℕ). sets m (1225 + (l .i + 1) * 27) (flatMap neighborNumbers (drop (l .i + 1) (s .args .t2 .entries)))) e
-          ∙ put-row neighborNumbers 27 (s .args .t2 .entries) 1225 (l .i) (l .image) _ h refl
+      ap length e ∙ length-sets (l .image) (neighborRowsPlace + l .i * 27) (neighborNumbers (getD (s .args .t2 .entries) (l .i) _)) ∙ l .inv .1,
+      ap (λ (m : List ℕ). sets m (neighborRowsPlace + (l .i + 1) * 27) (flatMap neighborNumbers (drop (l .i + 1) (s .args .t2 .entries)))) e
+          ∙ put-row neighborNumbers 27 (s .args .t2 .entries) neighborRowsPlace (l .i) (l .image) _ h refl
           ∙ l .inv .2,
     )
 
@@ -66,7 +67,7 @@ returns : tie.Need-returns Inv-loop μ-loop
 returns c =
     let l = c .before .loop in
     let s = c .before .before .before in
-    sym (rows-done neighborNumbers 27 (s .args .t2 .entries) 1225 (l .i) (l .image) (omega (arith, long s, c .loop-test .left))) ∙ l .inv .2
+    sym (rows-done neighborNumbers 27 (s .args .t2 .entries) neighborRowsPlace (l .i) (l .image) (omega (arith, long s, c .loop-test .left))) ∙ l .inv .2
 
 pub write-neighbor-rows-spec : {M : Type 1} → statement M
 write-neighbor-rows-spec =

@@ -7,13 +7,14 @@ use lib.ListN.{length, drop, getD}
 use lib.Seq.{sets, length-sets}
 use Rattle.flat_map.proofs.Shift.{unmapped}
 use Rattle.cells.proofs.Writing.{put-row, rows-done}
+use Rattle.cells.specs.Layout.{waitingRowsPlace}
 use Rattle.neighbor_values.specs.Values.{waitingNumbers}
 use borrow.Author.Needs.{needs}
 use Rattle.neighbor_image.proofs.waiting.write_waiting_entry_rows.Statement.{statement}
 use Rattle.neighbor_image.proofs.waiting.write_waiting_entry_rows.Tie as tie
 
 abbrev Inv-loop : tie.InvT-loop
-Inv-loop image₀ t i₀ image i = (i ≤ 64) × (length image ≡ length image₀) × (sets image (3018 + i * 6) (flatMap waitingNumbers (drop i (t .entries))) ≡ sets image₀ 3018 (flatMap waitingNumbers (t .entries)))
+Inv-loop image₀ t i₀ image i = (i ≤ 64) × (length image ≡ length image₀) × (sets image (waitingRowsPlace + i * 6) (flatMap waitingNumbers (drop i (t .entries))) ≡ sets image₀ waitingRowsPlace (flatMap waitingNumbers (t .entries)))
 
 abbrev μ-loop : tie.MeasureT-loop
 μ-loop image₀ t i₀ image i = 64 - i
@@ -53,9 +54,9 @@ loop-again c =
     let h : l .i < length (s .args .t2 .entries) = omega (arith, long s, c .before .before .before .before .before .loop-test .taken) in
     let e = c .before .before .write-waiting-entry .ensures in (
       search needs,
-      ap length e ∙ length-sets (l .image) (3018 + l .i * 6) (waitingNumbers (getD (s .args .t2 .entries) (l .i) _)) ∙ l .inv .1,
-      ap (λ (m : List ℕ). sets m (3018 + (l .i + 1) * 6) (flatMap waitingNumbers (drop (l .i + 1) (s .args .t2 .entries)))) e
-          ∙ put-row waitingNumbers 6 (s .args .t2 .entries) 3018 (l .i) (l .image) _ h refl
+      ap length e ∙ length-sets (l .image) (waitingRowsPlace + l .i * 6) (waitingNumbers (getD (s .args .t2 .entries) (l .i) _)) ∙ l .inv .1,
+      ap (λ (m : List ℕ). sets m (waitingRowsPlace + (l .i + 1) * 6) (flatMap waitingNumbers (drop (l .i + 1) (s .args .t2 .entries)))) e
+          ∙ put-row waitingNumbers 6 (s .args .t2 .entries) waitingRowsPlace (l .i) (l .image) _ h refl
           ∙ l .inv .2,
     )
 
@@ -66,7 +67,7 @@ returns : tie.Need-returns Inv-loop μ-loop
 returns c =
     let l = c .before .loop in
     let s = c .before .before .before in
-    sym (rows-done waitingNumbers 6 (s .args .t2 .entries) 3018 (l .i) (l .image) (omega (arith, long s, c .loop-test .left))) ∙ l .inv .2
+    sym (rows-done waitingNumbers 6 (s .args .t2 .entries) waitingRowsPlace (l .i) (l .image) (omega (arith, long s, c .loop-test .left))) ∙ l .inv .2
 
 pub write-waiting-entry-rows-spec : {M : Type 1} → statement M
 write-waiting-entry-rows-spec =

@@ -14,8 +14,8 @@ returns : tie.Need-returns
 unfolding activeStep
 returns c = rw (c .before .if1 .taken) (c .by-hint .ensures)
 
-next-hop-requires : tie.Need-next-hop-requires
-next-hop-requires c κs = search needs
+active-hop-requires : tie.Need-active-hop-requires
+active-hop-requires c κs = search needs
 
 by-hop-requires : tie.Need-by-hop-requires
 by-hop-requires c κs = search needs
@@ -23,10 +23,10 @@ by-hop-requires c κs = search needs
 returns-2 : tie.Need-returns-2
 unfolding activeStep
 returns-2 c =
-    let t = c .before .before .before .before in
+    let t = c .before .before .before in
     let a = t .before .args in
-    rw (t .if1 .left) (c .by-hop .ensures ∙ ap (hopped (a .header) (a .relays) (a .directive)) (c .before .next-hop .ensures))
+    rw (t .if1 .left) (c .by-hop .ensures ∙ ap (hopped (a .header) (a .relays) (a .directive)) (c .before .active-hop .ensures))
 
 pub by-route-spec : {M : Type 1} → statement M
 by-route-spec =
-    tie.close (tie.spec by-hint-requires returns next-hop-requires by-hop-requires returns-2)
+    tie.close (tie.spec by-hint-requires returns active-hop-requires by-hop-requires returns-2)

@@ -1,10 +1,12 @@
 -- The counters come first, and then the tables.
+-- Assumes nothing.
 use mathlib.Core.List.{_++_}
 use mathlib.Core.Path.{ap, sym, _∙_}
 use denote.Ref.{now}
 use Rattle.numbers.specs.Said.{spoken}
 use Rattle.lines.specs.Lines.{lineSaid}
 use Rattle.lines.proofs.Lines.{line-next}
+use Rattle.routing.specs.State.{routeTable}
 use Rattle.route_loads.specs.Prints.{counterLine, routeLines, afterRoutes, routingLines}
 use borrow.Author.Needs.{needs}
 use Rattle.route_loads.proofs.prints.line.Statement.{statement}
@@ -15,9 +17,7 @@ counter-line-requires c κs = search needs
 
 returns : tie.Need-returns
 unfolding routingLines
-returns c =
-    let s = c .before .before .before in
-    c .counter-line .ensures ∙ ap (λ k. spoken (lineSaid (routingLines (s .args .s) (now (s .args .store))) k)) (sym (c .before .if1 .taken))
+returns c = c .counter-line .ensures ∙ ap (λ k. spoken (lineSaid (routingLines (c .before .before .before .args .s) (now (c .before .before .before .args .store))) k)) (sym (c .before .if1 .taken))
 
 sub-from-routes : tie.Need-sub-from-routes
 sub-from-routes c = search needs
@@ -28,10 +28,10 @@ from-routes-requires c κs = search needs
 returns-2 : tie.Need-returns-2
 unfolding routingLines
 returns-2 c =
-    let s = c .before .before .before in
-    let w = s .args .s in
     c .from-routes .ensures
-    ∙ ap spoken (sym (line-next (counterLine w) (routeLines (w .«route_table») ++ afterRoutes w (now (s .args .store))) (s .args .i) (c .before .if1 .left)))
+    ∙ ap spoken (sym (line-next (counterLine (c .before .before .before .args .s)) (routeLines (routeTable (c .before .before .before .args .s)) ++ afterRoutes (c .before .before .before .args .s) (now (c .before .before .before .args .store))) (c .before .before .before .args .i) (c .before .if1 .left)))
 
 pub line-spec : {M : Type 1} → statement M
-line-spec = tie.close (tie.spec counter-line-requires returns sub-from-routes from-routes-requires returns-2)
+line-spec =
+    tie.close
+    (tie.spec counter-line-requires returns sub-from-routes from-routes-requires returns-2)

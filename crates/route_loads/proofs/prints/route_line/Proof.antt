@@ -1,34 +1,48 @@
 -- The entry at a place in use is said.
+-- Assumes nothing.
+use native.Mathlib.Omega.{arith}
 use mathlib.Core.Path.{_≡_, ap, sym, _∙_}
 use lib.ListN.{length}
-use Rattle.numbers.specs.Said.{spoken}
-use Rattle.flat_map.proofs.Shift.{unmapped}
-use Rattle.route_table.specs.Table.{blankRoute}
-use Rattle.lines.proofs.Lines.{line-here}
-use Rattle.route_loads.specs.Prints.{routeLine, routeLines}
+use Rattle.numbers.specs.Said.{ok, spoken}
+use Rattle.routing.specs.State.{routeTable}
+use Rattle.route_loads.specs.Prints.{routeLine}
+use Rattle.route_loads.proofs.Counts.{route-here}
 use borrow.Author.Needs.{needs}
 use Rattle.route_loads.proofs.prints.route_line.Statement.{statement}
 use Rattle.route_loads.proofs.prints.route_line.Tie as tie
 
--- an array of structs, as long as its type says
-long : (c : tie.Start) → length (c .args .t1 .entries) ≡ 64
-long c = search (needs, unmapped)
+-- the columns, as long as their types say
+long : (c : tie.Start) → (length (c .args .s .«route_keys») ≡ 64) × (length (c .args .s .«route_words») ≡ 64) × (length (c .args .s .«route_usage») ≡ 64)
+long c = (search needs, search needs, search needs)
 
-mul-e : tie.Need-mul-e
-mul-e c = search needs
+slice-aggregate-entry-at : tie.Need-slice-aggregate-entry-at
+slice-aggregate-entry-at c = search needs
 
-element-copy-out-e : tie.Need-element-copy-out-e
-element-copy-out-e c = search needs
+slice-aggregate-entry-at-2 : tie.Need-slice-aggregate-entry-at-2
+slice-aggregate-entry-at-2 c = search needs
+
+slice-aggregate-entry-at-3 : tie.Need-slice-aggregate-entry-at-3
+slice-aggregate-entry-at-3 c = search needs
+
+entry-at-requires : tie.Need-entry-at-requires
+entry-at-requires c κs = (omega (arith, long (c .before .before .before .before .before .before) .0, c .before .before .before .before .before .before .pre), omega (arith, long (c .before .before .before .before .before .before) .1, c .before .before .before .before .before .before .pre), omega (arith, long (c .before .before .before .before .before .before) .2, c .before .before .before .before .before .before .pre))
 
 route-values-requires : tie.Need-route-values-requires
 route-values-requires c κs = search needs
 
 returns : tie.Need-returns
-unfolding routeLines
 returns c =
-    let s = c .before .before in
-    let t = s .args .t1 in
-    c .route-values .ensures ∙ ap spoken (sym (line-here blankRoute routeLine (t .count) (t .entries) (s .args .i) (rw (long s) (s .pre))))
+    c .route-values .ensures
+    ∙ ap (λ e. spoken (ok (routeLine e))) (c .before .entry-at .ensures)
+    ∙ ap spoken (sym (route-here (routeTable (c .before .before .before .before .before .before .before .before .args .s)) (c .before .before .before .before .before .before .before .before .args .i) (c .before .before .before .before .before .before .before .before .pre)))
 
 pub route-line-spec : {M : Type 1} → statement M
-route-line-spec = tie.close (tie.spec mul-e element-copy-out-e route-values-requires returns)
+route-line-spec =
+    tie.close
+    (tie.spec
+    slice-aggregate-entry-at
+    slice-aggregate-entry-at-2
+    slice-aggregate-entry-at-3
+    entry-at-requires
+    route-values-requires
+    returns)

@@ -15,8 +15,8 @@ enum-told-2 c = search needs
 enum-told-3 : tie.Need-enum-told-3
 enum-told-3 c = search needs
 
-next-hop-requires : tie.Need-next-hop-requires
-next-hop-requires c κs = c .before .before .before .pre .routes
+active-hop-requires : tie.Need-active-hop-requires
+active-hop-requires c κs = search needs
 
 hop-to-requires : tie.Need-hop-to-requires
 hop-to-requires c κs = search needs
@@ -28,9 +28,7 @@ returns-2 : tie.Need-returns-2
 returns-2 c = ap (answerBy (c .before .before .args .self) (c .before .before .args .destination)) (sym (c .enum-told2 .given .1))
 
 returns-3 : tie.Need-returns-3
-returns-3 c =
-    let s = c .before .before .before .before .before in
-    c .hop-to .ensures ∙ ap hopTo (c .before .next-hop .ensures) ∙ ap (answerBy (s .args .self) (s .args .destination)) (sym (c .before .before .before .enum-told3 .given .1))
+returns-3 c = c .hop-to .ensures ∙ ap hopTo (c .before .active-hop .ensures) ∙ ap (answerBy (c .before .before .before .before .args .self) (c .before .before .before .before .args .destination)) (sym (c .before .before .enum-told3 .given .1))
 
 pub answer-by-spec : {M : Type 1} → statement M
 answer-by-spec =
@@ -39,7 +37,7 @@ answer-by-spec =
     enum-told
     enum-told-2
     enum-told-3
-    next-hop-requires
+    active-hop-requires
     hop-to-requires
     returns
     returns-2

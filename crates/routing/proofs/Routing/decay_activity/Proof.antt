@@ -1,10 +1,11 @@
--- A state that is not well formed is refused as it is; any other goes to the core form.
+-- A state that is not well formed is refused as it is; in any other the columns that the call leaves are put back, and they are those of its rows.
 -- Assumes nothing.
 use mathlib.Core.Path.{sym, _∙_}
 use borrow.Author.Needs.{needs}
 use borrow.Author.Tests.{not-true, not-false}
+use Rattle.route_calls.specs.declared.RouteAnswer.the-variants.{Done}
 use Rattle.routing.specs.Routes.{decayActivity}
-use Rattle.routing.proofs.State.{state-told}
+use Rattle.routing.proofs.State.{state-told, held-routes}
 use Rattle.routing.proofs.Routing.decay_activity.Statement.{statement}
 use Rattle.routing.proofs.Routing.decay_activity.Tie as tie
 
@@ -18,12 +19,33 @@ returns : tie.Need-returns
 unfolding decayActivity
 returns c = rw (sym (c .before .before .well-formed .ensures) ∙ not-true _ (c .before .if1 .taken)) (c .refuse-done .ensures)
 
-decay-activity-core-requires : tie.Need-decay-activity-core-requires
-decay-activity-core-requires c κs = state-told _ .fact (sym (c .before .well-formed .ensures) ∙ not-false _ (c .if1 .left))
+slice-aggregate-decay-activity : tie.Need-slice-aggregate-decay-activity
+slice-aggregate-decay-activity c = search needs
+
+slice-aggregate-decay-activity-2 : tie.Need-slice-aggregate-decay-activity-2
+slice-aggregate-decay-activity-2 c = search needs
+
+slice-aggregate-decay-activity-3 : tie.Need-slice-aggregate-decay-activity-3
+slice-aggregate-decay-activity-3 c = search needs
+
+decay-activity-requires : tie.Need-decay-activity-requires
+decay-activity-requires c κs = state-told _ .fact (sym (c .before .before .before .before .before .before .before .well-formed .ensures) ∙ not-false _ (c .before .before .before .before .before .before .if1 .left)) .routes
 
 returns-2 : tie.Need-returns-2
 unfolding decayActivity
-returns-2 c = rw (sym (c .before .before .well-formed .ensures) ∙ not-false _ (c .before .if1 .left)) (c .decay-activity-core .ensures)
+returns-2 c =
+    rw (sym (c .before .before .before .before .before .before .before .before .before .well-formed .ensures) ∙ not-false _ (c .before .before .before .before .before .before .before .before .if1 .left))
+    (λ z. record { answer = Done; state = held-routes (c .before .before .before .before .before .before .before .before .before .before .args .self) _ _ (c .before .decay-activity .ensures) z })
 
 pub decay-activity-spec : {M : Type 1} → statement M
-decay-activity-spec = tie.close (tie.spec well-formed-requires refuse-done-requires returns decay-activity-core-requires returns-2)
+decay-activity-spec =
+    tie.close
+    (tie.spec
+    well-formed-requires
+    refuse-done-requires
+    returns
+    slice-aggregate-decay-activity
+    slice-aggregate-decay-activity-2
+    slice-aggregate-decay-activity-3
+    decay-activity-requires
+    returns-2)

@@ -1,8 +1,9 @@
--- A state that is not well formed is refused; any other goes to the core form.
+-- A state that is not well formed is refused; any other has as many rows as its count says.
 -- Assumes nothing.
 use mathlib.Core.Path.{sym, _∙_}
 use borrow.Author.Needs.{needs}
 use borrow.Author.Tests.{not-true, not-false}
+use Rattle.discovery_table.proofs.Rows.{many}
 use Rattle.routing.specs.Queries.{discoveryCount}
 use Rattle.routing.proofs.State.{state-told}
 use Rattle.routing.proofs.Routing.discovery_count.Statement.{statement}
@@ -15,12 +16,9 @@ returns : tie.Need-returns
 unfolding discoveryCount
 returns c = rw (sym (c .before .well-formed .ensures) ∙ not-true _ (c .if1 .taken))
 
-discovery-count-core-requires : tie.Need-discovery-count-core-requires
-discovery-count-core-requires c κs = state-told _ .fact (sym (c .before .well-formed .ensures) ∙ not-false _ (c .if1 .left))
-
 returns-2 : tie.Need-returns-2
 unfolding discoveryCount
-returns-2 c = rw (sym (c .before .before .well-formed .ensures) ∙ not-false _ (c .before .if1 .left)) (c .discovery-count-core .ensures)
+returns-2 c = let formed = sym (c .before .well-formed .ensures) ∙ not-false _ (c .if1 .left) in rw (formed, many _ (state-told _ .fact formed .discoveries))
 
 pub discovery-count-spec : {M : Type 1} → statement M
-discovery-count-spec = tie.close (tie.spec well-formed-requires returns discovery-count-core-requires returns-2)
+discovery-count-spec = tie.close (tie.spec well-formed-requires returns returns-2)

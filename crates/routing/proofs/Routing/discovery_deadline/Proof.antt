@@ -1,4 +1,4 @@
--- A state that is not well formed is refused; any other goes to the core form.
+-- A state that is not well formed is refused; of any other the answer is the table's.
 -- Assumes nothing.
 use mathlib.Core.Path.{sym, _∙_}
 use borrow.Author.Needs.{needs}
@@ -15,12 +15,30 @@ returns : tie.Need-returns
 unfolding discoveryDeadline
 returns c = rw (sym (c .before .well-formed .ensures) ∙ not-true _ (c .if1 .taken))
 
-discovery-deadline-core-requires : tie.Need-discovery-deadline-core-requires
-discovery-deadline-core-requires c κs = state-told _ .fact (sym (c .before .well-formed .ensures) ∙ not-false _ (c .if1 .left))
+slice-aggregate-discovery-deadline : tie.Need-slice-aggregate-discovery-deadline
+slice-aggregate-discovery-deadline c = search needs
+
+slice-aggregate-discovery-deadline-2 : tie.Need-slice-aggregate-discovery-deadline-2
+slice-aggregate-discovery-deadline-2 c = search needs
+
+slice-aggregate-discovery-deadline-3 : tie.Need-slice-aggregate-discovery-deadline-3
+slice-aggregate-discovery-deadline-3 c = search needs
+
+discovery-deadline-requires : tie.Need-discovery-deadline-requires
+discovery-deadline-requires c κs = state-told _ .fact (sym (c .before .before .before .before .before .before .before .well-formed .ensures) ∙ not-false _ (c .before .before .before .before .before .before .if1 .left)) .discoveries
 
 returns-2 : tie.Need-returns-2
 unfolding discoveryDeadline
-returns-2 c = rw (sym (c .before .before .well-formed .ensures) ∙ not-false _ (c .before .if1 .left)) (c .discovery-deadline-core .ensures)
+returns-2 c = rw (sym (c .before .before .before .before .before .before .before .before .well-formed .ensures) ∙ not-false _ (c .before .before .before .before .before .before .before .if1 .left), c .discovery-deadline .ensures)
 
 pub discovery-deadline-spec : {M : Type 1} → statement M
-discovery-deadline-spec = tie.close (tie.spec well-formed-requires returns discovery-deadline-core-requires returns-2)
+discovery-deadline-spec =
+    tie.close
+    (tie.spec
+    well-formed-requires
+    returns
+    slice-aggregate-discovery-deadline
+    slice-aggregate-discovery-deadline-2
+    slice-aggregate-discovery-deadline-3
+    discovery-deadline-requires
+    returns-2)

@@ -1,10 +1,11 @@
--- A state that is not well formed is refused as it is; any other goes to the core form.
+-- A state that is not well formed is refused as it is; in any other the columns that the call leaves are put back, and they are those of its rows.
 -- Assumes nothing.
 use mathlib.Core.Path.{sym, _∙_}
 use borrow.Author.Needs.{needs}
 use borrow.Author.Tests.{not-true, not-false}
+use Rattle.route_calls.specs.declared.RouteAnswer.the-variants.{Done}
 use Rattle.routing.specs.Routes.{markDiscoveryFailed}
-use Rattle.routing.proofs.State.{state-told}
+use Rattle.routing.proofs.State.{state-told, held-routes}
 use Rattle.routing.proofs.Routing.mark_discovery_failed.Statement.{statement}
 use Rattle.routing.proofs.Routing.mark_discovery_failed.Tie as tie
 
@@ -18,12 +19,33 @@ returns : tie.Need-returns
 unfolding markDiscoveryFailed
 returns c = rw (sym (c .before .before .well-formed .ensures) ∙ not-true _ (c .before .if1 .taken)) (c .refuse-done .ensures)
 
-mark-discovery-failed-core-requires : tie.Need-mark-discovery-failed-core-requires
-mark-discovery-failed-core-requires c κs = state-told _ .fact (sym (c .before .well-formed .ensures) ∙ not-false _ (c .if1 .left))
+slice-aggregate-mark-discovery-failed : tie.Need-slice-aggregate-mark-discovery-failed
+slice-aggregate-mark-discovery-failed c = search needs
+
+slice-aggregate-mark-discovery-failed-2 : tie.Need-slice-aggregate-mark-discovery-failed-2
+slice-aggregate-mark-discovery-failed-2 c = search needs
+
+slice-aggregate-mark-discovery-failed-3 : tie.Need-slice-aggregate-mark-discovery-failed-3
+slice-aggregate-mark-discovery-failed-3 c = search needs
+
+mark-discovery-failed-requires : tie.Need-mark-discovery-failed-requires
+mark-discovery-failed-requires c κs = state-told _ .fact (sym (c .before .before .before .before .before .before .before .well-formed .ensures) ∙ not-false _ (c .before .before .before .before .before .before .if1 .left)) .routes
 
 returns-2 : tie.Need-returns-2
 unfolding markDiscoveryFailed
-returns-2 c = rw (sym (c .before .before .well-formed .ensures) ∙ not-false _ (c .before .if1 .left)) (c .mark-discovery-failed-core .ensures)
+returns-2 c =
+    rw (sym (c .before .before .before .before .before .before .before .before .before .before .well-formed .ensures) ∙ not-false _ (c .before .before .before .before .before .before .before .before .before .if1 .left))
+    (λ z. record { answer = Done; state = held-routes (c .before .before .before .before .before .before .before .before .before .before .before .args .self) _ _ (c .before .before .mark-discovery-failed .ensures) z })
 
 pub mark-discovery-failed-spec : {M : Type 1} → statement M
-mark-discovery-failed-spec = tie.close (tie.spec well-formed-requires refuse-done-requires returns mark-discovery-failed-core-requires returns-2)
+mark-discovery-failed-spec =
+    tie.close
+    (tie.spec
+    well-formed-requires
+    refuse-done-requires
+    returns
+    slice-aggregate-mark-discovery-failed
+    slice-aggregate-mark-discovery-failed-2
+    slice-aggregate-mark-discovery-failed-3
+    mark-discovery-failed-requires
+    returns-2)

@@ -1,20 +1,15 @@
--- Each table is the empty one.
+-- Each column of a fresh state is noughts, as in a table of no rows.
 -- Assumes nothing.
-use borrow.Author.Needs.{needs}
+use mathlib.Core.Path.{refl}
+use Rattle.route_table.specs.Table as routes
+use Rattle.discovery_table.specs.Table as discoveries
+use Rattle.record_table.specs.Table as records
 use Rattle.routing.proofs.Routing.new.Statement.{statement}
 use Rattle.routing.proofs.Routing.new.Tie as tie
 
-new-requires : tie.Need-new-requires
-new-requires c κs = search needs
-
-new-requires-2 : tie.Need-new-requires-2
-new-requires-2 c κs = search needs
-
-new-requires-3 : tie.Need-new-requires-3
-new-requires-3 c κs = search needs
-
 returns : tie.Need-returns
-returns c = rw (c .new3 .ensures, c .before .new2 .ensures, c .before .before .new .ensures)
+unfolding routes.tableOf discoveries.tableOf records.tableOf
+returns c = refl
 
 pub new-spec : {M : Type 1} → statement M
-new-spec = tie.close (tie.spec new-requires new-requires-2 new-requires-3 returns)
+new-spec = tie.close (tie.spec returns)

@@ -1,4 +1,4 @@
--- A state that is not well formed is refused as it is; any other goes to the core form.
+-- A state that is not well formed is refused as it is; in any other the counter that stops is written, and compared.
 -- Assumes nothing.
 use mathlib.Core.Path.{sym, _∙_}
 use borrow.Author.Needs.{needs}
@@ -17,12 +17,19 @@ returns : tie.Need-returns
 unfolding noteDeliveryFailure
 returns c = rw (sym (c .before .before .well-formed .ensures) ∙ not-true _ (c .before .if1 .taken)) (c .refuse-told .ensures)
 
-note-delivery-failure-core-requires : tie.Need-note-delivery-failure-core-requires
-note-delivery-failure-core-requires c κs = search needs
+saturating-add-u8-requires : tie.Need-saturating-add-u8-requires
+saturating-add-u8-requires c κs = search needs
 
 returns-2 : tie.Need-returns-2
 unfolding noteDeliveryFailure
-returns-2 c = rw (sym (c .before .before .well-formed .ensures) ∙ not-false _ (c .before .if1 .left)) (c .note-delivery-failure-core .ensures)
+returns-2 c = rw (sym (c .before .before .well-formed .ensures) ∙ not-false _ (c .before .if1 .left), c .saturating-add-u8 .ensures)
 
 pub note-delivery-failure-spec : {M : Type 1} → statement M
-note-delivery-failure-spec = tie.close (tie.spec well-formed-requires refuse-told-requires returns note-delivery-failure-core-requires returns-2)
+note-delivery-failure-spec =
+    tie.close
+    (tie.spec
+    well-formed-requires
+    refuse-told-requires
+    returns
+    saturating-add-u8-requires
+    returns-2)

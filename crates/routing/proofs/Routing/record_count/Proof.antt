@@ -1,8 +1,9 @@
--- A state that is not well formed is refused; any other goes to the core form.
+-- A state that is not well formed is refused; any other has as many rows as its count says.
 -- Assumes nothing.
 use mathlib.Core.Path.{sym, _∙_}
 use borrow.Author.Needs.{needs}
 use borrow.Author.Tests.{not-true, not-false}
+use Rattle.record_table.proofs.Rows.{many}
 use Rattle.routing.specs.Records.{recordCount}
 use Rattle.routing.proofs.State.{state-told}
 use Rattle.routing.proofs.Routing.record_count.Statement.{statement}
@@ -15,12 +16,16 @@ returns : tie.Need-returns
 unfolding recordCount
 returns c = rw (sym (c .before .well-formed .ensures) ∙ not-true _ (c .if1 .taken))
 
-record-count-core-requires : tie.Need-record-count-core-requires
-record-count-core-requires c κs = state-told _ .fact (sym (c .before .well-formed .ensures) ∙ not-false _ (c .if1 .left))
-
 returns-2 : tie.Need-returns-2
 unfolding recordCount
-returns-2 c = rw (sym (c .before .before .well-formed .ensures) ∙ not-false _ (c .before .if1 .left)) (c .record-count-core .ensures)
+returns-2 c =
+    let good = sym (c .before .well-formed .ensures) ∙ not-false _ (c .if1 .left) in
+    rw (good, many _ (state-told _ .fact good .records))
 
 pub record-count-spec : {M : Type 1} → statement M
-record-count-spec = tie.close (tie.spec well-formed-requires returns record-count-core-requires returns-2)
+record-count-spec =
+    tie.close
+    (tie.spec
+    well-formed-requires
+    returns
+    returns-2)

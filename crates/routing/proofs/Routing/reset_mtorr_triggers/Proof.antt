@@ -1,4 +1,4 @@
--- A state that is not well formed is refused as it is; any other goes to the core form.
+-- A state that is not well formed is refused as it is; in any other the counters are written.
 -- Assumes nothing.
 use mathlib.Core.Path.{sym, _∙_}
 use borrow.Author.Needs.{needs}
@@ -17,12 +17,9 @@ returns : tie.Need-returns
 unfolding resetMtorrTriggers
 returns c = rw (sym (c .before .before .well-formed .ensures) ∙ not-true _ (c .before .if1 .taken)) (c .refuse-done .ensures)
 
-reset-mtorr-triggers-core-requires : tie.Need-reset-mtorr-triggers-core-requires
-reset-mtorr-triggers-core-requires c κs = search needs
-
 returns-2 : tie.Need-returns-2
 unfolding resetMtorrTriggers
-returns-2 c = rw (sym (c .before .before .well-formed .ensures) ∙ not-false _ (c .before .if1 .left)) (c .reset-mtorr-triggers-core .ensures)
+returns-2 c = rw (sym (c .before .well-formed .ensures) ∙ not-false _ (c .if1 .left))
 
 pub reset-mtorr-triggers-spec : {M : Type 1} → statement M
-reset-mtorr-triggers-spec = tie.close (tie.spec well-formed-requires refuse-done-requires returns reset-mtorr-triggers-core-requires returns-2)
+reset-mtorr-triggers-spec = tie.close (tie.spec well-formed-requires refuse-done-requires returns returns-2)

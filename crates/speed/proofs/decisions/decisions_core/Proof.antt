@@ -21,14 +21,14 @@ returns-2 : tie.Need-returns-2
 returns-2 c = search needs
 
 agrees-requires : tie.Need-agrees-requires
-agrees-requires c κs = search needs
+agrees-requires c κs = state-told _ .fact (sym (c .before .before .before .well-formed .ensures) ∙ not-false _ (c .before .before .if1 .left))
 
 returns-3 : tie.Need-returns-3
 returns-3 c = search needs
 
 decisions-held-requires : tie.Need-decisions-held-requires
 decisions-held-requires c κs =
-    let known = c .before .before .before in
+    let known = c .before .before in
     let first = known .before .before in (
       state-told _ .fact (sym (first .before .well-formed .ensures) ∙ not-false _ (first .if1 .left)),
       well-formed-told _ .fact (sym (known .before .well-formed2 .ensures) ∙ not-false _ (known .if2 .left)),

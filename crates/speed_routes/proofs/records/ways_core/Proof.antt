@@ -14,14 +14,14 @@ returns : tie.Need-returns
 returns c = search needs
 
 agrees-requires : tie.Need-agrees-requires
-agrees-requires c κs = search needs
+agrees-requires c κs = state-told _ .fact (sym (c .before .well-formed .ensures) ∙ not-false _ (c .if1 .left))
 
 returns-2 : tie.Need-returns-2
 returns-2 c = search needs
 
 ways-held-requires : tie.Need-ways-held-requires
 ways-held-requires c κs = (
-  state-told _ .fact (sym (c .before .before .before .before .well-formed .ensures) ∙ not-false _ (c .before .before .before .if1 .left)),
+  state-told _ .fact (sym (c .before .before .before .well-formed .ensures) ∙ not-false _ (c .before .before .if1 .left)),
   agrees-told _ _ .fact (sym (c .before .agrees .ensures) ∙ not-false _ (c .if2 .left)),
 )
 

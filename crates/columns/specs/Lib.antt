@@ -1,0 +1,4 @@
+pub mod Columns
+pub mod Codec
+pub mod Table
+pub mod Room

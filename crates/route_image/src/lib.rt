@@ -1,4 +1,0 @@
-// The three routing tables as numbers of an image.
-pub mod discoveries;
-pub mod records;
-pub mod routes;

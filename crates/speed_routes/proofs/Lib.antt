@@ -1,2 +1,0 @@
-pub mod CoreKept
-pub mod RecordsKept
