@@ -40,7 +40,7 @@ int main(void) {
     call("no call", 87, to, 0);
     call_on("short answer", WARPTEASEL_IMAGE, WARPTEASEL_NEXT_HOP, to, 1, WARPTEASEL_ANSWER - 1);
     call_on("short image", WARPTEASEL_IMAGE - 1, WARPTEASEL_NEXT_HOP, to, 1, WARPTEASEL_ANSWER);
-    image[70] = 70000;
+    image[6] = 70000; /* the key of a route, past 16 bits */
     call("damaged", WARPTEASEL_NEXT_HOP, to, 1);
     call("damaged, too few", WARPTEASEL_NEXT_HOP, to, 0);
     return 0;

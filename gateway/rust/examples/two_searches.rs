@@ -10,6 +10,6 @@ fn main() {
     println!("hop {:?}", state.next_hop(7));
     println!("other {:?}", state.next_hop(8));
     let mut kept = state.image().to_vec();
-    kept[70] = 70000;
+    kept[6] = 70000; // the key of a route, past 16 bits
     println!("damaged {:?}", State::from_image(kept).next_hop(7));
 }
