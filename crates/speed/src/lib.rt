@@ -42,11 +42,11 @@ pub extern "C" fn warpteasel_speed_record(
     store: &mut [u16],
 ) -> u64 {
     let r = speed_routes::filled(size);
-    let s = speed_routes::records::filled_records(r, store, size);
+    let s = speed_records::filled_records(r, store, size);
     if exported {
-        speed_routes::records::records(s, store, inputs)
+        speed_records::records(s, store, inputs)
     } else {
-        speed_routes::records::records_core(s, store, inputs)
+        speed_records::records_core(s, store, inputs)
     }
 }
 
@@ -59,11 +59,11 @@ pub extern "C" fn warpteasel_speed_route_query(
     store: &mut [u16],
 ) -> u64 {
     let r = speed_routes::filled(size);
-    let s = speed_routes::records::filled_records(r, store, size);
+    let s = speed_records::filled_records(r, store, size);
     if exported {
-        speed_routes::records::ways(s, store, inputs)
+        speed_records::ways(s, store, inputs)
     } else {
-        speed_routes::records::ways_core(s, store, inputs)
+        speed_records::ways_core(s, store, inputs)
     }
 }
 
@@ -86,7 +86,7 @@ pub extern "C" fn warpteasel_speed_decision(
     store: &mut [u16],
 ) -> u64 {
     let r = speed_routes::filled(size);
-    let s = speed_routes::records::filled_records(r, store, size);
+    let s = speed_records::filled_records(r, store, size);
     let n = decisions::filled_neighbors(size);
     if exported {
         decisions::decisions(s, n, store, inputs)

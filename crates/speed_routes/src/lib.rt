@@ -1,7 +1,5 @@
 // What the benchmark runs of the route searches: many calls on one state, in the exported form and on columns that are lent.
 // A row of the inputs is eight numbers. The answers are added up, so that they can be compared with the Rust's.
-pub mod records;
-
 use route_begin::BeginAnswer;
 use route_begin::BeginResult;
 use route_reply::ReplyAnswer;

@@ -1,11 +1,11 @@
 // What the benchmark runs of the route records: many calls on one state and store, in the exported form and on columns that are lent.
 // A row of the inputs is eight numbers. The answers are added up, so that they can be compared with the Rust's.
-use crate::Turn;
 use route_record::RecordAnswer;
 use route_record::Recorded;
 use routing::RouteToAnswer;
 use routing::RouteToOutcome;
 use routing::Routing;
+use speed_routes::Turn;
 use standard::RelayList;
 use types::Nwk;
 ghost use Prim.Native.Nat.{_≤_};

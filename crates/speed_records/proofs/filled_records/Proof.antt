@@ -3,8 +3,8 @@ use Prim.Native.Nat.{_-_}
 use mathlib.Core.Path.{_≡_}
 use lib.ListN.{length}
 use borrow.Author.Needs.{needs}
-use Rattle.speed_routes.proofs.records.filled_records.Statement.{statement}
-use Rattle.speed_routes.proofs.records.filled_records.Tie as tie
+use Rattle.speed_records.proofs.filled_records.Statement.{statement}
+use Rattle.speed_records.proofs.filled_records.Tie as tie
 
 abbrev Inv-loop : tie.InvT-loop
 Inv-loop store₀ size relays s₀ i₀ store s i = length store ≡ length store₀

@@ -3,8 +3,8 @@ use Prim.Native.Nat.{_-_}
 use mathlib.Core.Path.{_≡_}
 use lib.ListN.{length}
 use borrow.Author.Needs.{needs}
-use Rattle.speed_routes.proofs.records.records.Statement.{statement}
-use Rattle.speed_routes.proofs.records.records.Tie as tie
+use Rattle.speed_records.proofs.records.Statement.{statement}
+use Rattle.speed_records.proofs.records.Tie as tie
 
 abbrev Inv-loop : tie.InvT-loop
 Inv-loop store₀ inputs s₀ sum₀ n k₀ store s sum k = length store ≡ length store₀

@@ -4,8 +4,8 @@ use borrow.Author.Tests.{not-false}
 use Rattle.relay_store.proofs.Agree.{agrees-told}
 use Rattle.routing.proofs.State.{state-told}
 use borrow.Author.Needs.{needs}
-use Rattle.speed_routes.proofs.records.ways_core.Statement.{statement}
-use Rattle.speed_routes.proofs.records.ways_core.Tie as tie
+use Rattle.speed_records.proofs.ways_core.Statement.{statement}
+use Rattle.speed_records.proofs.ways_core.Tie as tie
 
 well-formed-requires : tie.Need-well-formed-requires
 well-formed-requires c κs = search needs

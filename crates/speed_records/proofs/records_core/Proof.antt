@@ -10,8 +10,8 @@ use Rattle.relay_store.specs.Packed.{Together}
 use Rattle.record_table.proofs.Rows.{well-formed-told}
 use Rattle.relay_store.proofs.Agree.{agrees-told}
 use borrow.Author.Needs.{needs}
-use Rattle.speed_routes.proofs.records.records_core.Statement.{statement}
-use Rattle.speed_routes.proofs.records.records_core.Tie as tie
+use Rattle.speed_records.proofs.records_core.Statement.{statement}
+use Rattle.speed_records.proofs.records_core.Tie as tie
 
 abbrev Inv-loop : tie.InvT-loop
 Inv-loop store₀ inputs keys₀ lengths₀ count₀ sum₀ n k₀ store keys lengths count sum k = Together (inColumns keys lengths count) store × (length store ≡ length store₀) × (k ≤ n) × (n * 8 ≤ length inputs)
