@@ -1,7 +1,7 @@
 -- The state's test tells its well-formedness, table by table, and the part for route search is well formed with it; a well-formed state is its
 -- rows, put into columns; a fresh state is well formed, and so is one whose tables are put back well formed.
 use Prim.Native.Nat.{ℕ}
-use mathlib.Core.Bool.{true}
+use mathlib.Core.Bool.{Bool, true}
 use mathlib.Core.List.{List}
 use mathlib.Core.Path.{_≡_, refl, ap}
 use Rattle.standard.specs.declared.RouteEntry.{RouteEntry}
@@ -24,7 +24,7 @@ use Rattle.route_record.proofs.Kept.{holds-view}
 use Rattle.routing.specs.declared.Routing.{Routing}
 use Rattle.routing.specs.Records.{withRecords}
 use Rattle.routing.specs.Routes.{withRoutes}
-use Rattle.routing.specs.State.{WellFormed, wellFormed, fresh, routeTable, discoveryTable, recordTable, withTables, searchOf, withSearch, rowsIn, withRows}
+use Rattle.routing.specs.State.{WellFormed, wellFormed, formedIn, fresh, routeTable, discoveryTable, recordTable, withTables, searchOf, withSearch, rowsIn, withRows}
 
 pub state-told : (s : Routing) → Tells (WellFormed s) (wellFormed s)
 unfolding wellFormed
@@ -34,6 +34,11 @@ state-told s =
     (λ w. (w .routes, (w .discoveries, w .records)))
     (tells-both (routes.well-formed-told (routeTable s))
     (tells-both (discoveries.well-formed-told (discoveryTable s)) (records.well-formed-told (recordTable s))))
+
+-- the test of the columns is that of the state
+pub columns-told : (s : Routing) {r : Bool} → r ≡ formedIn (routeTable s) (discoveryTable s) (recordTable s) → r ≡ wellFormed s
+unfolding wellFormed
+columns-told s e = e
 
 pub search-formed : (s : Routing) → WellFormed s → search.WellFormed (searchOf s)
 search-formed s w = record { routes = w .routes; discoveries = w .discoveries }

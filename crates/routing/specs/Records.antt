@@ -12,6 +12,7 @@ use Rattle.types.specs.declared.Refusal.the-variants.{StateIllFormed, StoreDisa
 use Rattle.standard.specs.declared.RecordRoute.{RecordRoute}
 use Rattle.standard.specs.declared.RecordRoute.the-variants as record-route
 use Rattle.standard.specs.declared.RelayList.{RelayList}
+use Rattle.standard.specs.declared.RouteEntry.{RouteEntry}
 use Rattle.standard.specs.Calls.{hopAt}
 use Rattle.standard.specs.Ordered.{lookup, remove}
 use Rattle.standard.specs.Query.{isThere}
@@ -108,10 +109,13 @@ hopTo (hop.Hop n) = way.NextHop n
 hopTo hop.Unknown = way.Refused UnknownNextHop
 
 -- "an empty record is direct; fewer relays than the limit give a source route; else the Active route"
+abbrev pub answerIn : List RouteEntry → Nwk → RecordRoute → RouteToAnswer
+answerIn routes destination record-route.Direct = way.NextHop destination
+answerIn routes destination record-route.SourceRoute = way.SourceRoute
+answerIn routes destination record-route.None = hopTo (hopAnswer (hopAt (destination .0) routes))
+
 abbrev pub answerBy : Routing → Nwk → RecordRoute → RouteToAnswer
-answerBy s destination record-route.Direct = way.NextHop destination
-answerBy s destination record-route.SourceRoute = way.SourceRoute
-answerBy s destination record-route.None = hopTo (hopAnswer (hopAt (destination .0) (routesIn s)))
+answerBy s destination x = answerIn (routesIn s) destination x
 
 abbrev pub wayIn : Routing → Nwk → RecordWay → RouteToOutcome
 wayIn s destination x = record { answer = answerBy s destination (x .route); relays = x .relays }

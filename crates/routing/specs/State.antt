@@ -27,8 +27,11 @@ pub record WellFormed (s : Routing) : Type 0 where
   pub records : records.WellFormed (recordTable s)
 
 -- `WellFormed`, computed
+abbrev pub formedIn : routes.RouteTable → discoveries.DiscoveryTable → records.RecordTable → Bool
+formedIn t d u = routes.wellFormed t && (discoveries.wellFormed d && records.wellFormed u)
+
 unfoldable pub wellFormed : Routing → Bool
-wellFormed s = routes.wellFormed (routeTable s) && (discoveries.wellFormed (discoveryTable s) && records.wellFormed (recordTable s))
+wellFormed s = formedIn (routeTable s) (discoveryTable s) (recordTable s)
 
 -- a state of two trigger counters, the last request id and three tables
 abbrev pub stateOf : ℕ → ℕ → ℕ → routes.RouteTable → discoveries.DiscoveryTable → records.RecordTable → Routing

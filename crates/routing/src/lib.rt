@@ -19,7 +19,10 @@ use standard::RelayList;
 use types::Nwk;
 use types::Refusal;
 ghost use mathlib.Core.Path.{_≡_};
-ghost use Rattle.routing.specs.State.{wellFormed, fresh};
+ghost use Rattle.route_table.specs.Table as route;
+ghost use Rattle.discovery_table.specs.Table as discovery;
+ghost use Rattle.record_table.specs.Table as record-of;
+ghost use Rattle.routing.specs.State.{wellFormed, formedIn, fresh};
 ghost use Rattle.routing.specs.Search.{acceptRouteReply, acceptRouteRequest, beginDiscovery, beginManyToOneAdvertisement};
 
 // The trigger counters, the last request id, and the columns of the three tables: routes, discoveries, route records.
@@ -151,6 +154,33 @@ pub struct RouteToOutcome {
     pub relays: RelayList,
 }
 
+// Whether the columns of the three tables are well formed.
+pub fn columns_formed<'a>(
+    route_keys: &'a [u16],
+    route_words: &'a [u64],
+    route_usage: &'a [u32],
+    routes: usize,
+    discovery_keys: &'a [u32],
+    discovery_words: &'a [u64],
+    discovery_ends: &'a [u64],
+    discoveries: usize,
+    record_keys: &'a [u16],
+    record_lengths: &'a [u8],
+    records: usize,
+) -> bool
+    ensures { λ r. ⌜ r ≡ formedIn (route.inColumns (now («route_keys» .entry)) (now («route_words» .entry)) (now («route_usage» .entry)) routes) (discovery.inColumns (now («discovery_keys» .entry)) (now («discovery_words» .entry)) (now («discovery_ends» .entry)) discoveries) (record-of.inColumns (now («record_keys» .entry)) (now («record_lengths» .entry)) records) ⌝ }
+{
+    let routes_fine = route_table::well_formed(route_keys, route_words, route_usage, routes);
+    let discoveries_fine = discovery_table::well_formed(
+        discovery_keys,
+        discovery_words,
+        discovery_ends,
+        discoveries,
+    );
+    let records_fine = record_table::well_formed(record_keys, record_lengths, records);
+    routes_fine & (discoveries_fine & records_fine)
+}
+
 impl Routing {
     // Empty tables, counters 0 and request id 0.
     pub fn new() -> Routing
@@ -186,15 +216,19 @@ impl Routing {
         let discovery_ends = self.discovery_ends;
         let record_keys = self.record_keys;
         let record_lengths = self.record_lengths;
-        let routes = route_table::well_formed(&route_keys, &route_words, &route_usage, self.routes);
-        let discoveries = discovery_table::well_formed(
+        columns_formed(
+            &route_keys,
+            &route_words,
+            &route_usage,
+            self.routes,
             &discovery_keys,
             &discovery_words,
             &discovery_ends,
             self.discoveries,
-        );
-        let records = record_table::well_formed(&record_keys, &record_lengths, self.records);
-        routes & (discoveries & records)
+            &record_keys,
+            &record_lengths,
+            self.records,
+        )
     }
 
     // A route reply heard from `sender`: dropped, established for our own search, or to be relayed.
@@ -209,18 +243,32 @@ impl Routing {
     ) -> RouteReplyOutcome
         ensures { λ r. ⌜ r ≡ acceptRouteReply self own originator «request_id» responder sender «updated_path_cost» ⌝ }
     {
-        if !self.well_formed() {
-            return RouteReplyOutcome {
-                answer: ReplyAnswer::Refused(Refusal::StateIllFormed),
-                state: self,
-            };
-        }
         let mut route_keys = self.route_keys;
         let mut route_words = self.route_words;
         let mut route_usage = self.route_usage;
         let discovery_keys = self.discovery_keys;
         let mut discovery_words = self.discovery_words;
         let mut discovery_ends = self.discovery_ends;
+        let record_keys = self.record_keys;
+        let record_lengths = self.record_lengths;
+        if !columns_formed(
+            &route_keys,
+            &route_words,
+            &route_usage,
+            self.routes,
+            &discovery_keys,
+            &discovery_words,
+            &discovery_ends,
+            self.discoveries,
+            &record_keys,
+            &record_lengths,
+            self.records,
+        ) {
+            return RouteReplyOutcome {
+                answer: ReplyAnswer::Refused(Refusal::StateIllFormed),
+                state: self,
+            };
+        }
         let x = route_reply::reply(
             &mut route_keys,
             &mut route_words,
@@ -238,14 +286,25 @@ impl Routing {
             updated_path_cost,
         );
         let answer = x.answer;
-        let mut state = self;
-        state.route_keys = route_keys;
-        state.route_words = route_words;
-        state.route_usage = route_usage;
-        state.routes = x.routes;
-        state.discovery_words = discovery_words;
-        state.discovery_ends = discovery_ends;
-        RouteReplyOutcome { answer, state }
+        RouteReplyOutcome {
+            answer,
+            state: Routing {
+                mtorr_route_errors: self.mtorr_route_errors,
+                mtorr_delivery_failures: self.mtorr_delivery_failures,
+                request_sequence_number: self.request_sequence_number,
+                route_keys,
+                route_words,
+                route_usage,
+                routes: x.routes,
+                discovery_keys,
+                discovery_words,
+                discovery_ends,
+                discoveries: self.discoveries,
+                record_keys,
+                record_lengths,
+                records: self.records,
+            },
+        }
     }
 
     // A route request heard from `sender`: whether it is accepted, and what it did to the originator's route.
@@ -262,18 +321,32 @@ impl Routing {
     ) -> RouteRequestOutcome
         ensures { λ r. ⌜ r ≡ acceptRouteRequest self originator «request_id» destination sender «updated_path_cost» «many_to_one» now «route_discovery_time» ⌝ }
     {
-        if !self.well_formed() {
-            return RouteRequestOutcome {
-                answer: RequestAnswer::Refused(Refusal::StateIllFormed),
-                state: self,
-            };
-        }
         let mut route_keys = self.route_keys;
         let mut route_words = self.route_words;
         let mut route_usage = self.route_usage;
         let mut discovery_keys = self.discovery_keys;
         let mut discovery_words = self.discovery_words;
         let mut discovery_ends = self.discovery_ends;
+        let record_keys = self.record_keys;
+        let record_lengths = self.record_lengths;
+        if !columns_formed(
+            &route_keys,
+            &route_words,
+            &route_usage,
+            self.routes,
+            &discovery_keys,
+            &discovery_words,
+            &discovery_ends,
+            self.discoveries,
+            &record_keys,
+            &record_lengths,
+            self.records,
+        ) {
+            return RouteRequestOutcome {
+                answer: RequestAnswer::Refused(Refusal::StateIllFormed),
+                state: self,
+            };
+        }
         let x = route_request::request(
             &mut route_keys,
             &mut route_words,
@@ -293,16 +366,25 @@ impl Routing {
             route_discovery_time,
         );
         let answer = x.answer;
-        let mut state = self;
-        state.route_keys = route_keys;
-        state.route_words = route_words;
-        state.route_usage = route_usage;
-        state.routes = x.routes;
-        state.discovery_keys = discovery_keys;
-        state.discovery_words = discovery_words;
-        state.discovery_ends = discovery_ends;
-        state.discoveries = x.discoveries;
-        RouteRequestOutcome { answer, state }
+        RouteRequestOutcome {
+            answer,
+            state: Routing {
+                mtorr_route_errors: self.mtorr_route_errors,
+                mtorr_delivery_failures: self.mtorr_delivery_failures,
+                request_sequence_number: self.request_sequence_number,
+                route_keys,
+                route_words,
+                route_usage,
+                routes: x.routes,
+                discovery_keys,
+                discovery_words,
+                discovery_ends,
+                discoveries: x.discoveries,
+                record_keys,
+                record_lengths,
+                records: self.records,
+            },
+        }
     }
 
     // A search of our own: the route becomes DiscoveryUnderway; the answer is the request id.
@@ -315,19 +397,33 @@ impl Routing {
     ) -> BeginOutcome
         ensures { λ r. ⌜ r ≡ beginDiscovery self own destination now «route_discovery_time» ⌝ }
     {
-        if !self.well_formed() {
-            return BeginOutcome {
-                answer: BeginAnswer::Refused(Refusal::StateIllFormed),
-                state: self,
-            };
-        }
-        let id = types::next_id(self.request_sequence_number);
         let mut route_keys = self.route_keys;
         let mut route_words = self.route_words;
         let mut route_usage = self.route_usage;
         let mut discovery_keys = self.discovery_keys;
         let mut discovery_words = self.discovery_words;
         let mut discovery_ends = self.discovery_ends;
+        let record_keys = self.record_keys;
+        let record_lengths = self.record_lengths;
+        if !columns_formed(
+            &route_keys,
+            &route_words,
+            &route_usage,
+            self.routes,
+            &discovery_keys,
+            &discovery_words,
+            &discovery_ends,
+            self.discoveries,
+            &record_keys,
+            &record_lengths,
+            self.records,
+        ) {
+            return BeginOutcome {
+                answer: BeginAnswer::Refused(Refusal::StateIllFormed),
+                state: self,
+            };
+        }
+        let id = types::next_id(self.request_sequence_number);
         let x = route_begin::begin(
             &mut route_keys,
             &mut route_words,
@@ -350,17 +446,25 @@ impl Routing {
                 state: self,
             };
         };
-        let mut state = self;
-        state.route_keys = route_keys;
-        state.route_words = route_words;
-        state.route_usage = route_usage;
-        state.routes = x.routes;
-        state.discovery_keys = discovery_keys;
-        state.discovery_words = discovery_words;
-        state.discovery_ends = discovery_ends;
-        state.discoveries = x.discoveries;
-        state.request_sequence_number = id;
-        BeginOutcome { answer, state }
+        BeginOutcome {
+            answer,
+            state: Routing {
+                mtorr_route_errors: self.mtorr_route_errors,
+                mtorr_delivery_failures: self.mtorr_delivery_failures,
+                request_sequence_number: id,
+                route_keys,
+                route_words,
+                route_usage,
+                routes: x.routes,
+                discovery_keys,
+                discovery_words,
+                discovery_ends,
+                discoveries: x.discoveries,
+                record_keys,
+                record_lengths,
+                records: self.records,
+            },
+        }
     }
 
     // A many-to-one advertisement: the entry that stops its echoes; the answer is the request id.
@@ -372,19 +476,33 @@ impl Routing {
     ) -> BeginOutcome
         ensures { λ r. ⌜ r ≡ beginManyToOneAdvertisement self own now «route_discovery_time» ⌝ }
     {
-        if !self.well_formed() {
-            return BeginOutcome {
-                answer: BeginAnswer::Refused(Refusal::StateIllFormed),
-                state: self,
-            };
-        }
-        let id = types::next_id(self.request_sequence_number);
         let mut route_keys = self.route_keys;
         let mut route_words = self.route_words;
         let mut route_usage = self.route_usage;
         let mut discovery_keys = self.discovery_keys;
         let mut discovery_words = self.discovery_words;
         let mut discovery_ends = self.discovery_ends;
+        let record_keys = self.record_keys;
+        let record_lengths = self.record_lengths;
+        if !columns_formed(
+            &route_keys,
+            &route_words,
+            &route_usage,
+            self.routes,
+            &discovery_keys,
+            &discovery_words,
+            &discovery_ends,
+            self.discoveries,
+            &record_keys,
+            &record_lengths,
+            self.records,
+        ) {
+            return BeginOutcome {
+                answer: BeginAnswer::Refused(Refusal::StateIllFormed),
+                state: self,
+            };
+        }
+        let id = types::next_id(self.request_sequence_number);
         let x = route_begin::advertise(
             &mut route_keys,
             &mut route_words,
@@ -406,16 +524,24 @@ impl Routing {
                 state: self,
             };
         };
-        let mut state = self;
-        state.route_keys = route_keys;
-        state.route_words = route_words;
-        state.route_usage = route_usage;
-        state.routes = x.routes;
-        state.discovery_keys = discovery_keys;
-        state.discovery_words = discovery_words;
-        state.discovery_ends = discovery_ends;
-        state.discoveries = x.discoveries;
-        state.request_sequence_number = id;
-        BeginOutcome { answer, state }
+        BeginOutcome {
+            answer,
+            state: Routing {
+                mtorr_route_errors: self.mtorr_route_errors,
+                mtorr_delivery_failures: self.mtorr_delivery_failures,
+                request_sequence_number: id,
+                route_keys,
+                route_words,
+                route_usage,
+                routes: x.routes,
+                discovery_keys,
+                discovery_words,
+                discovery_ends,
+                discoveries: x.discoveries,
+                record_keys,
+                record_lengths,
+                records: self.records,
+            },
+        }
     }
 }

@@ -17,8 +17,9 @@ use types::Nwk;
 use types::Refusal;
 ghost use mathlib.Core.Path.{_≡_};
 ghost use Rattle.relay_store.specs.Store.{agrees, Agrees};
+ghost use Rattle.route_table.specs.Table as route;
 ghost use Rattle.routing.specs.State.{WellFormed, recordTable};
-ghost use Rattle.routing.specs.Records.{refusedRecord, refusedWay, storeRouteRecord, storeAfterRecord, removeRouteRecord, storeAfterRemoval, hopTo, answerBy, routeToCore, routeTo, routeToDefault, recordCount, recordHere, refusedRecordAt, recordAt};
+ghost use Rattle.routing.specs.Records.{refusedRecord, refusedWay, storeRouteRecord, storeAfterRecord, removeRouteRecord, storeAfterRemoval, hopTo, answerIn, answerBy, routeToCore, routeTo, routeToDefault, recordCount, recordHere, refusedRecordAt, recordAt};
 
 // The hop that the route table names, as the way: one that is not known is refusal 6.
 fn hop_to(hop: HopAnswer) -> RouteToAnswer
@@ -63,6 +64,34 @@ fn refuse_record_at(refusal: Refusal) -> RecordAtOutcome
     }
 }
 
+// What a record's word on the way comes to, by routes in columns that are lent: where it names none, the Active route decides.
+fn answer_on(
+    route_keys: &[u16],
+    route_words: &[u64],
+    route_usage: &[u32],
+    routes: usize,
+    destination: Nwk,
+    way: RecordRoute,
+) -> RouteToAnswer
+    requires { ⌜ route.WellFormed (route.inColumns (now «route_keys») (now «route_words») (now «route_usage») routes) ⌝ }
+    ensures { λ r. ⌜ r ≡ answerIn (route.rowsOf (route.inColumns (now («route_keys» .entry)) (now («route_words» .entry)) (now («route_usage» .entry)) routes)) destination way ⌝ }
+{
+    match way {
+        RecordRoute::Direct => RouteToAnswer::NextHop(destination),
+        RecordRoute::SourceRoute => RouteToAnswer::SourceRoute,
+        RecordRoute::None => {
+            let hop = route_calls::next_hop(
+                route_keys,
+                route_words,
+                route_usage,
+                routes,
+                destination,
+            );
+            hop_to(hop)
+        }
+    }
+}
+
 impl Routing {
     // Whether a store agrees with the record table, which is well formed.
     pub fn agrees(self, store: &[u16]) -> bool
@@ -93,17 +122,35 @@ impl Routing {
         ensures { λ r. ⌜ r ≡ storeRouteRecord self source relays (now (store .entry)) ⌝ }
         ensures { λ _. ⌜ now (store .exit) ≡ storeAfterRecord self source relays (now (store .entry)) ⌝ }
     {
-        if !self.well_formed() {
+        let route_keys = self.route_keys;
+        let route_words = self.route_words;
+        let route_usage = self.route_usage;
+        let discovery_keys = self.discovery_keys;
+        let discovery_words = self.discovery_words;
+        let discovery_ends = self.discovery_ends;
+        let mut record_keys = self.record_keys;
+        let mut record_lengths = self.record_lengths;
+        if !crate::columns_formed(
+            &route_keys,
+            &route_words,
+            &route_usage,
+            self.routes,
+            &discovery_keys,
+            &discovery_words,
+            &discovery_ends,
+            self.discoveries,
+            &record_keys,
+            &record_lengths,
+            self.records,
+        ) {
             return self.refuse_record(Refusal::StateIllFormed);
         }
-        if !self.agrees(store) {
+        if !relay_store::agrees(&record_lengths, store) {
             return self.refuse_record(Refusal::StoreDisagrees);
         }
         if 32 < relays.count {
             return self.refuse_record(Refusal::ListTooLong);
         }
-        let mut record_keys = self.record_keys;
-        let mut record_lengths = self.record_lengths;
         let x = route_record::store_record(
             &mut record_keys,
             &mut record_lengths,
@@ -113,11 +160,25 @@ impl Routing {
             relays,
         );
         let answer = x.answer;
-        let mut state = self;
-        state.record_keys = record_keys;
-        state.record_lengths = record_lengths;
-        state.records = x.records;
-        RecordOutcome { answer, state }
+        RecordOutcome {
+            answer,
+            state: Routing {
+                mtorr_route_errors: self.mtorr_route_errors,
+                mtorr_delivery_failures: self.mtorr_delivery_failures,
+                request_sequence_number: self.request_sequence_number,
+                route_keys,
+                route_words,
+                route_usage,
+                routes: self.routes,
+                discovery_keys,
+                discovery_words,
+                discovery_ends,
+                discoveries: self.discoveries,
+                record_keys,
+                record_lengths,
+                records: x.records,
+            },
+        }
     }
 
     // The record of a destination is removed; whether there was one.
@@ -195,13 +256,51 @@ impl Routing {
     pub fn route_to(self, store: &[u16], destination: Nwk, max_source_route: u8) -> RouteToOutcome
         ensures { λ r. ⌜ r ≡ routeTo self destination «max_source_route» (now (store .entry)) ⌝ }
     {
-        if !self.well_formed() {
+        let route_keys = self.route_keys;
+        let route_words = self.route_words;
+        let route_usage = self.route_usage;
+        let discovery_keys = self.discovery_keys;
+        let discovery_words = self.discovery_words;
+        let discovery_ends = self.discovery_ends;
+        let record_keys = self.record_keys;
+        let record_lengths = self.record_lengths;
+        if !crate::columns_formed(
+            &route_keys,
+            &route_words,
+            &route_usage,
+            self.routes,
+            &discovery_keys,
+            &discovery_words,
+            &discovery_ends,
+            self.discoveries,
+            &record_keys,
+            &record_lengths,
+            self.records,
+        ) {
             return refuse_way(Refusal::StateIllFormed);
         }
-        if !self.agrees(store) {
+        if !relay_store::agrees(&record_lengths, store) {
             return refuse_way(Refusal::StoreDisagrees);
         }
-        self.route_to_core(store, destination, max_source_route)
+        let x = route_record::way_to(
+            &record_keys,
+            &record_lengths,
+            self.records,
+            store,
+            destination,
+            max_source_route,
+        );
+        let way = x.route;
+        let relays = x.relays;
+        let answer = answer_on(
+            &route_keys,
+            &route_words,
+            &route_usage,
+            self.routes,
+            destination,
+            way,
+        );
+        RouteToOutcome { answer, relays }
     }
 
     // The way to a destination by the default policy, whose limit is 12.
