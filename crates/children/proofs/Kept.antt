@@ -40,12 +40,12 @@ use Rattle.children.specs.Attach.{startIn, attached}
 use Rattle.children.specs.Calls.{truth, nothingTaken, keptBy, refreshedIn, refreshChildTimeoutCore, retimedBy, setChildTimeoutCore, takenIn, takeChildCore, evictTimedOutChildrenCore, upsertedBy, upsertChildCore}
 use Rattle.children.proofs.Found.{known-there, start-key}
 
-start-sound : (o : Option NeighborEntry) (eui64 : Eui64) (now : ℕ) → ((e : NeighborEntry) → o ≡ some e → isSound e ≡ true) → isSound (startIn (looked o) eui64 now) ≡ true
+pub start-sound : (o : Option NeighborEntry) (eui64 : Eui64) (now : ℕ) → ((e : NeighborEntry) → o ≡ some e → isSound e ≡ true) → isSound (startIn (looked o) eui64 now) ≡ true
 unfolding isSound
 start-sound none eui64 now h = refl
 start-sound (some e) eui64 now h = h e refl
 
-attached-sound : (child : ChildDescriptor) (at : ℕ) (e : NeighborEntry) → isSound e ≡ true → isSound (attached child at e) ≡ true
+pub attached-sound : (child : ChildDescriptor) (at : ℕ) (e : NeighborEntry) → isSound e ≡ true → isSound (attached child at e) ≡ true
 unfolding isSound
 attached-sound child at e h = h
 

@@ -309,7 +309,7 @@ pub fn evict_timed_out_children_core(state: Neighbors, now: u64) -> Removal
 }
 
 // The entry that a joining child starts from: the one that it has, or a new one.
-fn start_in(found: NeighborLookup, eui64: Eui64, now: u64) -> NeighborEntry
+pub fn start_in(found: NeighborLookup, eui64: Eui64, now: u64) -> NeighborEntry
     ensures { λ r. ⌜ r ≡ startIn found eui64 now ⌝ }
 {
     if found.found {
@@ -324,7 +324,7 @@ fn start_in(found: NeighborLookup, eui64: Eui64, now: u64) -> NeighborEntry
 }
 
 // What a device may change from one attachment to the next is stored anew.
-fn attach(child: ChildDescriptor, at: u64, e: NeighborEntry) -> NeighborEntry
+pub fn attach(child: ChildDescriptor, at: u64, e: NeighborEntry) -> NeighborEntry
     ensures { λ r. ⌜ r ≡ attached child at e ⌝ }
 {
     let extended_address = e.extended_address;

@@ -1,13 +1,13 @@
 -- Sound columns as a table of flat_map, whose laws then apply: the rows that they hold are a well-formed table, and back.
-use Prim.Native.Nat.{ℕ, zero, suc, _<_, _≤_}
+use Prim.Native.Nat.{ℕ, zero, suc, _≤_}
 use native.Mathlib.Omega.{arith}
 use mathlib.Core.List.{List, [], _∷_}
 use mathlib.Core.Logic.{⊎-elim}
-use mathlib.Core.Path.{_≡_, refl, sym, ap, _∙_, subst}
+use mathlib.Core.Path.{_≡_, refl, sym, ap, _∙_}
 use lib.ListN.{length, getD, drop, List·getD-eq-default}
-use Rattle.flat_map.specs.Table.{ZeroFrom, Formed}
+use Rattle.flat_map.specs.Table.{Formed}
 use Rattle.flat_map.proofs.Compare.{below-or-not}
-use Rattle.columns.specs.Columns.{at, entries, Long, noughts, ZerosFrom, Ordered}
+use Rattle.columns.specs.Columns.{at, entries, Long, noughts, ZerosFrom}
 use Rattle.columns.specs.Codec.{Codec}
 use Rattle.columns.specs.Table.{Sound}
 use Rattle.columns.proofs.Places.{entries-length, entry-at}

@@ -6,3 +6,4 @@ pub mod Rows
 pub mod Sweep
 pub mod Told
 pub mod View
+pub mod First

@@ -1,11 +1,10 @@
 -- Loops over sound columns: one that takes out what fails a test, and one that changes every row in its place.
 -- At each turn the rest of the work, done now, gives the goal: the laws of flat_map's sweeps, read through the columns.
 use Prim.Native.Nat.{ℕ, _+_, _-_, _<_, _≤_}
-use native.Mathlib.Omega.{arith}
 use mathlib.Core.Bool.{Bool, true, false}
 use mathlib.Core.List.{List, _∷_, map}
-use mathlib.Core.Path.{_≡_, refl, sym, ap, _∙_, subst}
-use lib.ListN.{length, take, drop, getD, set}
+use mathlib.Core.Path.{_≡_, sym, ap, _∙_, subst}
+use lib.ListN.{take, drop, getD}
 use Rattle.standard.specs.Ordered.{keep}
 use Rattle.flat_map.specs.declared.Place.the-variants.{Found}
 use Rattle.flat_map.specs.Seek.{placeOf}

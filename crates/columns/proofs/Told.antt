@@ -1,16 +1,15 @@
 -- The computed test of columns tells exactly whether they are in order and their numbers below a bound.
 use Prim.Native.Nat.{ℕ, zero, suc, _+_, _<_, _≤_}
 use native.Mathlib.Omega.{arith}
-use mathlib.Core.Bool.{Bool}
 use mathlib.Core.List.{List, [], _∷_}
 use mathlib.Core.Path.{_≡_, sym}
-use lib.Dec.{eqb, ltb}
-use lib.ListN.{length, take, getD}
+use lib.Dec.{eqb}
+use lib.ListN.{length, take}
 use lib.Seq.{length-take-le, getD-take}
 use Rattle.standard.specs.Ordered.{Asc}
 use Rattle.standard.specs.Tells.{Tells}
 use Rattle.standard.proofs.Tells.{yes-so, tells-both, tells-eq, tells-le, tells-lt, tells-so}
-use Rattle.flat_map.specs.Table.{Rising, every}
+use Rattle.flat_map.specs.Table.{Rising}
 use Rattle.flat_map.proofs.Order.{rising-asc, asc-rising, asc-told}
 use Rattle.flat_map.proofs.Told.{every-told}
 use Rattle.columns.specs.Columns.{Long, ZerosFrom, Under, Ordered, areLong, areZero, areUnder, ordered}

@@ -5,18 +5,18 @@ use native.Mathlib.Omega.{arith}
 use mathlib.Core.List.{List, [], _∷_, map}
 use mathlib.Core.Logic.{⊎-elim}
 use mathlib.Core.Path.{_≡_, refl, sym, ap, _∙_, subst}
-use lib.ListN.{length, take, drop, getD, length-map, List·getD-map, List·getD-eq-default}
+use lib.ListN.{length, take, drop, getD, length-map, List·getD-map}
 use lib.Seq.{length-take-le, ext-getD, getD-take}
 use Rattle.flat_map.specs.Rows.{pad}
-use Rattle.flat_map.specs.Table.{Each, Fit, Formed, ZeroFrom}
+use Rattle.flat_map.specs.Table.{Fit, Formed, ZeroFrom}
 use Rattle.flat_map.proofs.Compare.{below-or-not}
 use Rattle.flat_map.proofs.Lists.{any-default}
-use Rattle.flat_map.proofs.Rows.{cons, length-pad, pad-is, getD-pad, getD-blank}
+use Rattle.flat_map.proofs.Rows.{length-pad, pad-is, getD-pad, getD-blank}
 use Rattle.flat_map.proofs.Table.{formed-rows, rows-back, row-at}
-use Rattle.columns.specs.Columns.{places, at, entries, Long, noughts, ZerosFrom}
+use Rattle.columns.specs.Columns.{at, entries, Long, noughts, ZerosFrom}
 use Rattle.columns.specs.Codec.{Codec}
 use Rattle.columns.specs.Table.{Sound, rowsIn, column, columnsFrom}
-use Rattle.columns.proofs.Places.{places-same, places-length, place-at, entries-length}
+use Rattle.columns.proofs.Places.{place-at, entries-length}
 use Rattle.columns.proofs.Formed as formed
 use Rattle.columns.proofs.Rows as rows
 

@@ -59,6 +59,12 @@ ZerosFrom m (c ∷ cs) = ZeroFrom c m × ZerosFrom m cs
 abbrev pub Under : ℕ → List ℕ → Type 0
 Under m xs = (i : ℕ) → getD xs i 0 < m
 
+-- r is the first of n places where x stands; n where it stands in none
+pub record FirstAt (xs : List ℕ) (n x r : ℕ) : Type 0 where
+  pub within : r ≤ n
+  pub before : (j : ℕ) → j < r → getD xs j 0 ≡ x → ⊥
+  pub there : r < n → getD xs r 0 ≡ x
+
 -- columns of `cap` places of which n are in use: the keys go up, and what is not in use is 0
 pub record Ordered (cap : ℕ) (keys : List ℕ) (others : List (List ℕ)) (n : ℕ) : Type 0 where
   pub long : Long cap (keys ∷ others)

@@ -50,33 +50,33 @@ counted-small own live status x e h = go (eqb (status .address .0) (own .0)) whe
   go true = costs-small status e .0
   go false = h
 
-tallied-small : (own : Nwk) (live : Nwk → Bool) (list : List LinkStatus) (x : Tally) → every costsFit list ≡ true → x .cost ≤ 7 → tallied own live list x .cost ≤ 7
+pub tallied-small : (own : Nwk) (live : Nwk → Bool) (list : List LinkStatus) (x : Tally) → every costsFit list ≡ true → x .cost ≤ 7 → tallied own live list x .cost ≤ 7
 tallied-small own live [] x e h = h
 tallied-small own live (status ∷ rest) x e h =
     tallied-small own live rest (counted own (live (status .address)) status x) (right-so (costsFit status) (every costsFit rest) e)
     (counted-small own (live (status .address)) status x (left-so (costsFit status) (every costsFit rest) e) h)
 
-begun-small : (first : Bool) (e : NeighborEntry) → e .«outgoing_cost» ≤ 7 → begun first e .cost ≤ 7
+pub begun-small : (first : Bool) (e : NeighborEntry) → e .«outgoing_cost» ≤ 7 → begun first e .cost ≤ 7
 begun-small true e h = omega arith
 begun-small false e h = h
 
-finished-sound : (now : ℕ) (x : Tally) (e : NeighborEntry) → x .cost ≤ 7 → isSound e ≡ true → isSound (finished now x e) ≡ true
+pub finished-sound : (now : ℕ) (x : Tally) (e : NeighborEntry) → x .cost ≤ 7 → isSound e ≡ true → isSound (finished now x e) ≡ true
 unfolding isSound finished
 finished-sound now x e h s = both-so (le-leb _ _ h) (right-so (leb (e .«outgoing_cost») 7) (ring.wellFormed (e .lqas)) s)
 
-finished-key : (now : ℕ) (x : Tally) (e : NeighborEntry) → neighborKey (finished now x e) ≡ neighborKey e
+pub finished-key : (now : ℕ) (x : Tally) (e : NeighborEntry) → neighborKey (finished now x e) ≡ neighborKey e
 unfolding finished
 finished-key now x e = refl
 
-new-key : (name : Eui64) (nwk : Nwk) (at now : ℕ) (samples : RingBuffer) → neighborKey (newRouter name nwk at now samples) ≡ name .0
+pub new-key : (name : Eui64) (nwk : Nwk) (at now : ℕ) (samples : RingBuffer) → neighborKey (newRouter name nwk at now samples) ≡ name .0
 unfolding newRouter
 new-key name nwk at now samples = refl
 
-cost-of : (e : NeighborEntry) → isSound e ≡ true → e .«outgoing_cost» ≤ 7
+pub cost-of : (e : NeighborEntry) → isSound e ≡ true → e .«outgoing_cost» ≤ 7
 unfolding isSound
 cost-of e s = leb-true _ _ (left-so (leb (e .«outgoing_cost») 7) (ring.wellFormed (e .lqas)) s)
 
-new-sound : (name : Eui64) (nwk : Nwk) (at now lqi : ℕ) (ws : List WaitingEntry) → every waits-entry.isSound ws ≡ true → isSound (newRouter name nwk at now (samplesOf nwk lqi ws)) ≡ true
+pub new-sound : (name : Eui64) (nwk : Nwk) (at now lqi : ℕ) (ws : List WaitingEntry) → every waits-entry.isSound ws ≡ true → isSound (newRouter name nwk at now (samplesOf nwk lqi ws)) ≡ true
 unfolding isSound newRouter
 new-sound name nwk at now lqi ws h = go (lookup waits-entry.waitingKey (nwk .0) ws) refl where
   go : (o : Option WaitingEntry) → lookup waits-entry.waitingKey (nwk .0) ws ≡ o → ring.wellFormed (ring.afterPush (waiting.looked o .entry .lqas) lqi) ≡ true

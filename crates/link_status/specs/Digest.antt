@@ -7,6 +7,7 @@ use mathlib.Core.List.{List}
 use lib.Dec.{eqb, leb, ltb}
 use Rattle.types.specs.declared.Nwk.{Nwk}
 use Rattle.types.specs.declared.Eui64.{Eui64}
+use Rattle.types.specs.declared.Refusal.{Refusal}
 use Rattle.types.specs.declared.Refusal.the-variants.{StateIllFormed, ListTooLong, LinkCostTooHigh, TimePastEnd, NeighborTableFull}
 use Rattle.types.specs.declared.Sum.{Sum}
 use Rattle.types.specs.declared.Sum.the-variants.{At, Past}
@@ -26,6 +27,7 @@ use Rattle.waiting_table.specs.declared.WaitingEntry.{WaitingEntry}
 use Rattle.waiting_table.specs.Entry.{waitingKey}
 use Rattle.waiting_table.specs.Table as waiting
 use Rattle.neighbors.specs.declared.Neighbors.{Neighbors}
+use Rattle.neighbors.specs.declared.NwkAnswer.{NwkAnswer}
 use Rattle.neighbors.specs.declared.NwkAnswer.the-variants.{Is, Nothing}
 use Rattle.neighbors.specs.State.{wellFormed, rows, waits, stateOf}
 use Rattle.children.specs.declared.NwkOutcome.{NwkOutcome}
@@ -111,37 +113,60 @@ newRouter name nwk at now samples = record {
 abbrev pub samplesOf : Nwk → ℕ → List WaitingEntry → RingBuffer
 samplesOf nwk lqi ws = afterPush (waiting.looked (lookup waitingKey (nwk .0) ws) .entry .lqas) lqi
 
--- what the statuses make of an entry's sums and cost
-abbrev pub tallyOf : Neighbors → Nwk → LinkStatusCommand → NeighborEntry → Tally
-tallyOf s own command e = tallied own (isLiveAt (rows s)) (statusesOf command) (begun (command .«is_first_frame») e)
+-- what the statuses make of an entry's sums and cost, by the neighbours before the call
+abbrev pub tallyBy : List NeighborEntry → Nwk → LinkStatusCommand → NeighborEntry → Tally
+tallyBy xs own command e = tallied own (isLiveAt xs) (statusesOf command) (begun (command .«is_first_frame») e)
 
 -- the link is lost where it had a cost and has none; "The lost link named is the neighbour's stored address"
+abbrev pub lost : NeighborEntry → Tally → NwkAnswer
+lost e x = cond (ltb 0 (e .«outgoing_cost») && eqb (x .cost) 0) (Is (e .«network_address»)) Nothing
+
+-- The rule on the rows of both tables, xs and ws. What a refusal makes of them is `refuse`, and what an answer and the rows left are, `leave`.
+abbrev pub digestedRows : {O : Type 0} → (NwkAnswer → List NeighborEntry → List WaitingEntry → O) → List NeighborEntry → List WaitingEntry → Nwk → ℕ → NeighborEntry → Tally → O
+digestedRows leave xs ws nwk now e x = leave (lost e x) (put neighborKey (finished now x e) xs) (remove waitingKey (nwk .0) ws)
+
+-- a sender that is not known wants a deadline that the clock has, and a place
+abbrev pub admittedRows : {O : Type 0} → (Refusal → O) → (NwkAnswer → List NeighborEntry → List WaitingEntry → O) → List NeighborEntry → List WaitingEntry → Nwk → Eui64 → Nwk → ℕ → LinkStatusCommand → ℕ → Sum → O
+admittedRows refuse leave xs ws own name nwk lqi command now (At at) =
+    let e = newRouter name nwk at now (samplesOf nwk lqi ws) in
+    cond (leb (countWith neighborKey (name .0) xs) 64) (digestedRows leave xs ws nwk now e (tallyBy xs own command e)) (refuse NeighborTableFull)
+admittedRows refuse leave xs ws own name nwk lqi command now Past = refuse TimePastEnd
+
+abbrev pub heardRows : {O : Type 0} → (Refusal → O) → (NwkAnswer → List NeighborEntry → List WaitingEntry → O) → List NeighborEntry → List WaitingEntry → Nwk → Eui64 → Nwk → ℕ → LinkStatusCommand → ℕ → NeighborLookup → O
+heardRows refuse leave xs ws own name nwk lqi command now l =
+    cond (l .found) (digestedRows leave xs ws nwk now (l .entry) (tallyBy xs own command (l .entry)))
+    (admittedRows refuse leave xs ws own name nwk lqi command now (timeSum now forever))
+
+abbrev pub onRows : {O : Type 0} → (Refusal → O) → (NwkAnswer → List NeighborEntry → List WaitingEntry → O) → List NeighborEntry → List WaitingEntry → Nwk → Eui64 → Nwk → ℕ → LinkStatusCommand → ℕ → O
+onRows refuse leave xs ws own name nwk lqi command now =
+    cond (ltb 31 (command .count)) (refuse ListTooLong)
+    (cond (not (every costsFit (statusesOf command))) (refuse LinkCostTooHigh)
+    (heardRows refuse leave xs ws own name nwk lqi command now (neighbours.looked (lookup neighborKey (name .0) xs))))
+
+-- The same of a state by value.
+abbrev pub leftIn : NwkAnswer → List NeighborEntry → List WaitingEntry → NwkOutcome
+leftIn answer xs ws = record { answer = answer; state = stateOf xs ws }
+
+abbrev pub tallyOf : Neighbors → Nwk → LinkStatusCommand → NeighborEntry → Tally
+tallyOf s own command e = tallyBy (rows s) own command e
+
 abbrev pub digestedAs : Neighbors → Nwk → ℕ → NeighborEntry → Tally → NwkOutcome
-digestedAs s nwk now e x = record {
-  answer = cond (ltb 0 (e .«outgoing_cost») && eqb (x .cost) 0) (Is (e .«network_address»)) Nothing;
-  state = stateOf (put neighborKey (finished now x e) (rows s)) (remove waitingKey (nwk .0) (waits s));
-}
+digestedAs s nwk now e x = digestedRows leftIn (rows s) (waits s) nwk now e x
 
 abbrev pub digested : Neighbors → Nwk → Nwk → LinkStatusCommand → ℕ → NeighborEntry → NwkOutcome
 digested s own nwk command now e = digestedAs s nwk now e (tallyOf s own command e)
 
--- a sender that is not known wants a deadline that the clock has, and a place
 abbrev pub admittedBy : Neighbors → Nwk → Eui64 → Nwk → ℕ → LinkStatusCommand → ℕ → Sum → NwkOutcome
-admittedBy s own name nwk lqi command now (At at) =
-    cond (leb (countWith neighborKey (name .0) (rows s)) 64) (digested s own nwk command now (newRouter name nwk at now (samplesOf nwk lqi (waits s)))) (refusedTaken s NeighborTableFull)
-admittedBy s own name nwk lqi command now Past = refusedTaken s TimePastEnd
+admittedBy s own name nwk lqi command now sum = admittedRows (refusedTaken s) leftIn (rows s) (waits s) own name nwk lqi command now sum
 
 abbrev pub admitted : Neighbors → Nwk → Eui64 → Nwk → ℕ → LinkStatusCommand → ℕ → NwkOutcome
 admitted s own name nwk lqi command now = admittedBy s own name nwk lqi command now (timeSum now forever)
 
 abbrev pub heardIn : Neighbors → Nwk → Eui64 → Nwk → ℕ → LinkStatusCommand → ℕ → NeighborLookup → NwkOutcome
-heardIn s own name nwk lqi command now l = cond (l .found) (digested s own nwk command now (l .entry)) (admitted s own name nwk lqi command now)
+heardIn s own name nwk lqi command now l = heardRows (refusedTaken s) leftIn (rows s) (waits s) own name nwk lqi command now l
 
 abbrev pub onLinkStatusCore : Neighbors → Nwk → Eui64 → Nwk → ℕ → LinkStatusCommand → ℕ → NwkOutcome
-onLinkStatusCore s own name nwk lqi command now =
-    cond (ltb 31 (command .count)) (refusedTaken s ListTooLong)
-    (cond (not (every costsFit (statusesOf command))) (refusedTaken s LinkCostTooHigh)
-    (heardIn s own name nwk lqi command now (neighbours.looked (lookup neighborKey (name .0) (rows s)))))
+onLinkStatusCore s own name nwk lqi command now = onRows (refusedTaken s) leftIn (rows s) (waits s) own name nwk lqi command now
 
 unfoldable pub onLinkStatus : Neighbors → Nwk → Eui64 → Nwk → ℕ → LinkStatusCommand → ℕ → NwkOutcome
 onLinkStatus s own name nwk lqi command now = cond (wellFormed s) (onLinkStatusCore s own name nwk lqi command now) (refusedTaken s StateIllFormed)

@@ -50,7 +50,7 @@ fn costs_fit(status: LinkStatus) -> bool
 }
 
 // Whether every cost of a command is one that a link can have.
-fn all_costs_fit(command: LinkStatusCommand) -> bool
+pub fn all_costs_fit(command: LinkStatusCommand) -> bool
     requires { ⌜ command .count ≤ 31 ⌝ }
     ensures { λ r. ⌜ r ≡ every costsFit (statusesOf command) ⌝ }
 {
@@ -98,7 +98,7 @@ fn pick(on: bool, x: u8, other: u8) -> u8
 }
 
 // One status more.
-fn count_one(own: Nwk, live: bool, status: LinkStatus, x: Tally) -> Tally
+pub fn count_one(own: Nwk, live: bool, status: LinkStatus, x: Tally) -> Tally
     requires { ⌜ costsFit status ≡ true ⌝ }
     ensures { λ r. ⌜ r ≡ counted own live status x ⌝ }
 {
@@ -179,7 +179,7 @@ fn add_up(t: NeighborTable, own: Nwk, command: LinkStatusCommand, start: Tally) 
 const FOREVER: u64 = 4294967295000;
 
 // A device that sends a link status is no end device.
-fn as_router(d: NwkDeviceType) -> NwkDeviceType
+pub fn as_router(d: NwkDeviceType) -> NwkDeviceType
     ensures { λ r. ⌜ r ≡ asRouter d ⌝ }
 {
     match d {
@@ -190,7 +190,7 @@ fn as_router(d: NwkDeviceType) -> NwkDeviceType
 }
 
 // A first frame starts from nothing, any other from what is stored.
-fn begin(e: NeighborEntry, first: bool) -> Tally
+pub fn begin(e: NeighborEntry, first: bool) -> Tally
     ensures { λ r. ⌜ r ≡ begun first e ⌝ }
 {
     Tally {
@@ -201,7 +201,7 @@ fn begin(e: NeighborEntry, first: bool) -> Tally
 }
 
 // What the command leaves in the entry.
-fn finish(e: NeighborEntry, x: Tally, now: u64) -> NeighborEntry
+pub fn finish(e: NeighborEntry, x: Tally, now: u64) -> NeighborEntry
     ensures { λ r. ⌜ r ≡ finished now x e ⌝ }
 {
     let extended_address = e.extended_address;
@@ -237,7 +237,7 @@ fn finish(e: NeighborEntry, x: Tally, now: u64) -> NeighborEntry
 }
 
 // A neighbour that was not known: a sibling router.
-fn new_router(name: Eui64, nwk: Nwk, at: u64, now: u64, lqas: RingBuffer) -> NeighborEntry
+pub fn new_router(name: Eui64, nwk: Nwk, at: u64, now: u64, lqas: RingBuffer) -> NeighborEntry
     ensures { λ r. ⌜ r ≡ newRouter name nwk at now lqas ⌝ }
 {
     NeighborEntry {

@@ -7,13 +7,10 @@ use types::Eui64;
 use types::Nwk;
 ghost use mathlib.Core.Path.{_≡_};
 ghost use mathlib.Core.List.{map};
-ghost use Rattle.standard.specs.Ordered.{lookup, keep};
-ghost use Rattle.standard.specs.Query.{first};
-ghost use Rattle.standard.specs.Rows.{putBack};
-ghost use Rattle.neighbor_table.specs.Entry.{neighborKey};
+ghost use Rattle.standard.specs.Ordered.{keep};
 ghost use Rattle.neighbor_table.specs.Table.{Formed64, rowsOf, tableOf};
-ghost use Rattle.neighbor_queries.specs.Filter.{fits};
 ghost use Rattle.neighbor_changes.specs.Change.{sampled, applied, forgiven, misses};
+ghost use Rattle.neighbor_changes.specs.Rules.{changedAt, changedFirst};
 
 // What happens to one neighbour.
 pub enum Change {
@@ -90,7 +87,7 @@ impl Change {
 // The table with a change of the first neighbour that fits.
 pub fn change_first(t: NeighborTable, filter: Filter, change: Change) -> NeighborTable
     requires { ⌜ Formed64 t ⌝ }
-    ensures { λ r. ⌜ r ≡ tableOf (putBack neighborKey (applied change) (first (fits filter) (rowsOf t)) (rowsOf t)) ⌝ }
+    ensures { λ r. ⌜ r ≡ tableOf (changedFirst change filter (rowsOf t)) ⌝ }
 {
     let found = neighbor_queries::first_fitting(t, filter);
     if !found.found {
@@ -103,7 +100,7 @@ pub fn change_first(t: NeighborTable, filter: Filter, change: Change) -> Neighbo
 // The table with a change of the neighbour of an extended address.
 pub fn change_at(t: NeighborTable, eui64: Eui64, change: Change) -> NeighborTable
     requires { ⌜ Formed64 t ⌝ }
-    ensures { λ r. ⌜ r ≡ tableOf (putBack neighborKey (applied change) (lookup neighborKey (eui64 .0) (rowsOf t)) (rowsOf t)) ⌝ }
+    ensures { λ r. ⌜ r ≡ tableOf (changedAt change eui64 (rowsOf t)) ⌝ }
 {
     let found = neighbor_table::find(t, eui64);
     if !found.found {

@@ -7,14 +7,11 @@ use Rattle.types.specs.declared.Nwk.{Nwk}
 use Rattle.types.specs.declared.Eui64.{Eui64}
 use Rattle.types.specs.declared.Refusal.the-variants.{StateIllFormed}
 use Rattle.standard.specs.Ordered as ordered
-use Rattle.standard.specs.Ordered.{lookup}
-use Rattle.standard.specs.Query.{first}
-use Rattle.standard.specs.Rows.{putBack}
 use Rattle.neighbor_table.specs.Entry.{neighborKey}
 use Rattle.neighbor_queries.specs.declared.Filter.the-variants.{Address}
-use Rattle.neighbor_queries.specs.Filter.{fits}
 use Rattle.neighbor_changes.specs.declared.Change.the-variants as changes
-use Rattle.neighbor_changes.specs.Change.{applied, forgiven}
+use Rattle.neighbor_changes.specs.Change.{forgiven}
+use Rattle.neighbor_changes.specs.Rules.{changedAt, changedFirst}
 use Rattle.neighbors.specs.declared.Neighbors.{Neighbors}
 use Rattle.neighbors.specs.declared.Outcome.{Outcome}
 use Rattle.neighbors.specs.State.{wellFormed, rows, withRows}
@@ -22,7 +19,7 @@ use Rattle.neighbors.specs.Answers.{refused}
 
 -- a known device has another network address
 abbrev pub updateNetworkAddressCore : Neighbors → Eui64 → Nwk → Outcome
-updateNetworkAddressCore s eui64 nwk = withRows s (putBack neighborKey (applied (changes.Address nwk)) (lookup neighborKey (eui64 .0) (rows s)) (rows s))
+updateNetworkAddressCore s eui64 nwk = withRows s (changedAt (changes.Address nwk) eui64 (rows s))
 
 unfoldable pub updateNetworkAddress : Neighbors → Eui64 → Nwk → Outcome
 updateNetworkAddress s eui64 nwk = cond (wellFormed s) (updateNetworkAddressCore s eui64 nwk) (refused s StateIllFormed)
@@ -36,21 +33,21 @@ remove s eui64 = cond (wellFormed s) (removeCore s eui64) (refused s StateIllFor
 
 -- a unicast went out by a neighbour
 abbrev pub recordOutboundActivityCore : Neighbors → Eui64 → Outcome
-recordOutboundActivityCore s eui64 = withRows s (putBack neighborKey (applied changes.Outbound) (lookup neighborKey (eui64 .0) (rows s)) (rows s))
+recordOutboundActivityCore s eui64 = withRows s (changedAt changes.Outbound eui64 (rows s))
 
 unfoldable pub recordOutboundActivity : Neighbors → Eui64 → Outcome
 recordOutboundActivity s eui64 = cond (wellFormed s) (recordOutboundActivityCore s eui64) (refused s StateIllFormed)
 
 -- a unicast came in by a neighbour
 abbrev pub recordInboundActivityCore : Neighbors → Nwk → Outcome
-recordInboundActivityCore s nwk = withRows s (putBack neighborKey (applied changes.Inbound) (first (fits (Address nwk)) (rows s)) (rows s))
+recordInboundActivityCore s nwk = withRows s (changedFirst changes.Inbound (Address nwk) (rows s))
 
 unfoldable pub recordInboundActivity : Neighbors → Nwk → Outcome
 recordInboundActivity s nwk = cond (wellFormed s) (recordInboundActivityCore s nwk) (refused s StateIllFormed)
 
 -- a unicast to a neighbour was not acknowledged
 abbrev pub recordTransmitFailureCore : Neighbors → Eui64 → Outcome
-recordTransmitFailureCore s eui64 = withRows s (putBack neighborKey (applied changes.Failure) (lookup neighborKey (eui64 .0) (rows s)) (rows s))
+recordTransmitFailureCore s eui64 = withRows s (changedAt changes.Failure eui64 (rows s))
 
 unfoldable pub recordTransmitFailure : Neighbors → Eui64 → Outcome
 recordTransmitFailure s eui64 = cond (wellFormed s) (recordTransmitFailureCore s eui64) (refused s StateIllFormed)

@@ -3,3 +3,4 @@ pub mod Zeros
 pub mod Shapes
 pub mod Ring
 pub mod Fresh
+pub mod Word

@@ -1,11 +1,12 @@
-// The last three link samples, and their median.
-ghost use Prim.Native.Nat.{_+_, _<_, min};
+// The last three link samples and their median; a ring of samples as one number.
+ghost use Prim.Native.Nat.{_+_, _*_, _<_, min};
 ghost use mathlib.Core.Path.{_≡_};
 ghost use lib.Dec.{eqb};
 ghost use lib.ListN.{drop};
 ghost use Rattle.standard.specs.Median.{Ordered, medianOf};
 ghost use Rattle.standard.specs.Tells.{Tells};
-ghost use Rattle.ring_buffer.specs.Ring.{fresh, afterPush, allZero, WellFormed, isFresh};
+ghost use Rattle.ring_buffer.specs.Ring.{fresh, afterPush, allZero, WellFormed, wellFormed, isFresh};
+ghost use Rattle.ring_buffer.specs.Word.{ringOf, ringWord, wordEnd, InRange};
 ghost use Rattle.ring_buffer.specs.Exchange.{exchanged};
 
 // Three samples, by value.
@@ -90,6 +91,56 @@ impl RingBuffer {
     {
         (self.len == 0) & self.well_formed()
     }
+
+    // The ring in a word, from its lowest 40 bits.
+    pub fn of_word(word: u64) -> RingBuffer
+        ensures { λ r. ⌜ r ≡ ringOf word ⌝ }
+    {
+        RingBuffer {
+            values: [
+                (word % 256) as u8,
+                (word / 256 % 256) as u8,
+                (word / 65536 % 256) as u8,
+            ],
+            len: (word / 16777216 % 256) as u8,
+            next: (word / 4294967296 % 256) as u8,
+        }
+    }
+
+    // The word of the ring. Every ring of a program is within the word's fields.
+    pub fn word(self) -> u64
+        ensures { λ r. ⌜ (r ≡ ringWord self) × (r < wordEnd) × InRange self ⌝ }
+    {
+        let values = self.values;
+        packed(values[0], values[1], values[2], self.len, self.next)
+    }
+}
+
+// The fields of a word, each a byte, put together.
+fn packed(first: u8, second: u8, third: u8, len: u8, next: u8) -> u64
+    ensures { λ r. ⌜
+        (r ≡ first + second * 256 + third * 65536 + len * 16777216 + next * 4294967296) × (r < wordEnd)
+        × (first < 256) × (second < 256) × (third < 256) × (len < 256) × (next < 256)
+        ⌝ }
+{
+    first as u64
+        + second as u64 * 256
+        + third as u64 * 65536
+        + len as u64 * 16777216
+        + next as u64 * 4294967296
+}
+
+// Whether the ring in a word is well formed: no sample held, or one, two or three, with a next place that fits.
+// What stands above the first sample is compared as one number of 32 bits.
+pub fn word_sound(word: u64) -> bool
+    ensures { λ r. ⌜ r ≡ wellFormed (ringOf word) ⌝ }
+{
+    let above = (word / 256 % 4294967296) as u32;
+    let none = word % 1099511627776 == 0;
+    let one = above == 16842752;
+    let two = above / 256 == 131584;
+    let three = (above / 65536 % 256 == 3) & (above < 50331648);
+    none | one | two | three
 }
 
 // The count after a push, which stops at three.

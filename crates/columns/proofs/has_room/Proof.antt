@@ -1,5 +1,5 @@
 -- By what the place is.
-use mathlib.Core.Path.{_≡_, sym, ap, _∙_}
+use mathlib.Core.Path.{sym, ap}
 use Rattle.flat_map.specs.declared.Place.{Place}
 use Rattle.columns.specs.Room.{roomFor}
 use borrow.Author.Needs.{needs}

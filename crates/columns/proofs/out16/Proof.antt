@@ -8,8 +8,6 @@ use borrow.Author.Needs.{needs}
 use native.Mathlib.Omega.{arith}
 use Rattle.columns.proofs.out16.Statement.{statement}
 use Rattle.columns.proofs.out16.Tie as tie
-use Rattle.columns.proofs.out16.Reads as reads
-use Rattle.columns.proofs.out16.Lts as lts
 
 abbrev Inv-loop : tie.InvT-loop
 Inv-loop a₀ i last j₀ a j = (length a ≡ length a₀) × (last + 1 ≡ length a₀) × (j ≤ last) × (shiftOut j 0 a ≡ shiftOut i 0 a₀)
@@ -17,61 +15,47 @@ Inv-loop a₀ i last j₀ a j = (length a ≡ length a₀) × (last + 1 ≡ leng
 abbrev μ-loop : tie.MeasureT-loop
 μ-loop a₀ i last j₀ a j = last - j
 
--- src/lib.rt:203:16
 sub-last : tie.Need-sub-last Inv-loop μ-loop
 sub-last c = search needs
 
--- src/lib.rt:205:5
 loop-holds : tie.Need-loop-holds Inv-loop μ-loop
 loop-holds c = (refl, omega (arith, c .pre), omega (arith, c .pre), refl)
 
--- src/lib.rt:206:18
 add-a : tie.Need-add-a Inv-loop μ-loop
 add-a c = search needs
 
--- src/lib.rt:206:16
 mul-a : tie.Need-mul-a Inv-loop μ-loop
 mul-a c = search needs
 
--- src/lib.rt:206:16
 slice-read-a : tie.Need-slice-read-a Inv-loop μ-loop
 slice-read-a c = search needs
 
--- src/lib.rt:206:9
 mul-a-2 : tie.Need-mul-a-2 Inv-loop μ-loop
 mul-a-2 c = search needs
 
--- src/lib.rt:206:9
 slice-write-a : tie.Need-slice-write-a Inv-loop μ-loop
 slice-write-a c = search needs
 
--- src/lib.rt:207:9
 add-j : tie.Need-add-j Inv-loop μ-loop
 add-j c = search needs
 
--- src/lib.rt:205:5
 loop-less : tie.Need-loop-less Inv-loop μ-loop
 loop-less c = search needs
 
--- src/lib.rt:205:5
 loop-again : tie.Need-loop-again Inv-loop μ-loop
 loop-again c =
     let v = c .before .before .loop in
     (length-set (v .a) _ _ ∙ v .inv .0, v .inv .1, omega arith, shift-out-step (v .a) (v .j) 0 0 (omega (arith, v .inv .0, v .inv .1)) ∙ v .inv .3)
 
--- src/lib.rt:209:5
 mul-a-3 : tie.Need-mul-a-3 Inv-loop μ-loop
 mul-a-3 c = search needs
 
--- src/lib.rt:209:5
 slice-write-a-2 : tie.Need-slice-write-a-2 Inv-loop μ-loop
 slice-write-a-2 c = search needs
 
--- src/lib.rt:199:1
 same-length : tie.Need-same-length Inv-loop μ-loop
 same-length c = length-set (c .before .loop .a) _ _ ∙ c .before .loop .inv .0
 
--- src/lib.rt:199:1
 returns : tie.Need-returns Inv-loop μ-loop
 returns c =
     let v = c .before .loop in

@@ -8,8 +8,6 @@ use borrow.Author.Needs.{needs}
 use native.Mathlib.Omega.{arith}
 use Rattle.columns.proofs.out8.Statement.{statement}
 use Rattle.columns.proofs.out8.Tie as tie
-use Rattle.columns.proofs.out8.Reads as reads
-use Rattle.columns.proofs.out8.Lts as lts
 
 abbrev Inv-loop : tie.InvT-loop
 Inv-loop a₀ i last j₀ a j = (length a ≡ length a₀) × (last + 1 ≡ length a₀) × (j ≤ last) × (shiftOut j 0 a ≡ shiftOut i 0 a₀)
@@ -17,49 +15,38 @@ Inv-loop a₀ i last j₀ a j = (length a ≡ length a₀) × (last + 1 ≡ leng
 abbrev μ-loop : tie.MeasureT-loop
 μ-loop a₀ i last j₀ a j = last - j
 
--- src/lib.rt:189:16
 sub-last : tie.Need-sub-last Inv-loop μ-loop
 sub-last c = search needs
 
--- src/lib.rt:191:5
 loop-holds : tie.Need-loop-holds Inv-loop μ-loop
 loop-holds c = (refl, omega (arith, c .pre), omega (arith, c .pre), refl)
 
--- src/lib.rt:192:18
 add-a : tie.Need-add-a Inv-loop μ-loop
 add-a c = search needs
 
--- src/lib.rt:192:16
 slice-read-a : tie.Need-slice-read-a Inv-loop μ-loop
 slice-read-a c = search needs
 
--- src/lib.rt:192:9
 slice-write-a : tie.Need-slice-write-a Inv-loop μ-loop
 slice-write-a c = search needs
 
--- src/lib.rt:193:9
 add-j : tie.Need-add-j Inv-loop μ-loop
 add-j c = search needs
 
--- src/lib.rt:191:5
 loop-less : tie.Need-loop-less Inv-loop μ-loop
 loop-less c = search needs
 
--- src/lib.rt:191:5
 loop-again : tie.Need-loop-again Inv-loop μ-loop
 loop-again c =
     let v = c .before .before .loop in
     (length-set (v .a) _ _ ∙ v .inv .0, v .inv .1, omega arith, shift-out-step (v .a) (v .j) 0 0 (omega (arith, v .inv .0, v .inv .1)) ∙ v .inv .3)
 
--- src/lib.rt:195:5
 slice-write-a-2 : tie.Need-slice-write-a-2 Inv-loop μ-loop
 slice-write-a-2 c = search needs
 
--- src/lib.rt:185:1
 same-length : tie.Need-same-length Inv-loop μ-loop
 same-length c = length-set (c .before .loop .a) _ _ ∙ c .before .loop .inv .0
 
--- src/lib.rt:185:1
 returns : tie.Need-returns Inv-loop μ-loop
 returns c =
     let v = c .before .loop in

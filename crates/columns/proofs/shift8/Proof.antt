@@ -1,16 +1,13 @@
 -- The shift goes down from the last place: before each turn the array is the old one with place j twice. The measure is j.
 use Prim.Native.Nat.{ℕ, _≤_, _<_, _-_}
-use mathlib.Core.Path.{_≡_, refl, sym, _∙_, ap, subst}
+use mathlib.Core.Path.{_≡_, refl, sym, _∙_, ap}
 use mathlib.Core.List.{List}
 use lib.ListN.{length, length-set, set, getD}
-use Rattle.flat_map.proofs.Shift.{length-shift-in}
 use Rattle.columns.proofs.Shift.{twice, twice-last, twice-end, step-down}
 use borrow.Author.Needs.{needs}
 use native.Mathlib.Omega.{arith}
 use Rattle.columns.proofs.shift8.Statement.{statement}
 use Rattle.columns.proofs.shift8.Tie as tie
-use Rattle.columns.proofs.shift8.Reads as reads
-use Rattle.columns.proofs.shift8.Lts as lts
 
 abbrev Inv-loop : tie.InvT-loop
 Inv-loop a₀ i x j₀ a j = (length a ≡ length a₀) × (i ≤ j) × (j < length a₀) × (a ≡ twice 0 j a₀)
@@ -18,38 +15,30 @@ Inv-loop a₀ i x j₀ a j = (length a ≡ length a₀) × (i ≤ j) × (j < len
 abbrev μ-loop : tie.MeasureT-loop
 μ-loop a₀ i x j₀ a j = j
 
--- src/lib.rt:53:17
 sub-j : tie.Need-sub-j Inv-loop μ-loop
 sub-j c = search needs
 
--- src/lib.rt:54:5
 loop-holds : tie.Need-loop-holds Inv-loop μ-loop
 loop-holds c =
     let xs = c .args .a .now in
     (refl, omega (arith, c .pre), omega (arith, c .pre), sym (twice-last 0 xs (length xs - 1) (omega (arith, c .pre))))
 
--- src/lib.rt:55:18
 sub-a : tie.Need-sub-a Inv-loop μ-loop
 sub-a c =
     omega arith
 
--- src/lib.rt:55:16
 slice-read-a : tie.Need-slice-read-a Inv-loop μ-loop
 slice-read-a c = search needs
 
--- src/lib.rt:55:9
 slice-write-a : tie.Need-slice-write-a Inv-loop μ-loop
 slice-write-a c = search needs
 
--- src/lib.rt:56:9
 sub-j-2 : tie.Need-sub-j-2 Inv-loop μ-loop
 sub-j-2 c = search needs
 
--- src/lib.rt:54:5
 loop-less : tie.Need-loop-less Inv-loop μ-loop
 loop-less c = search needs
 
--- src/lib.rt:54:5
 loop-again : tie.Need-loop-again Inv-loop μ-loop
 loop-again c =
     let v = c .before .before .loop in
@@ -60,16 +49,13 @@ loop-again c =
       ap (λ (l : List ℕ). set l (v .j) (getD l (v .j - 1) 0)) (v .inv .3) ∙ step-down 0 xs (v .j) (omega arith) (v .inv .2),
     )
 
--- src/lib.rt:58:5
 slice-write-a-2 : tie.Need-slice-write-a-2 Inv-loop μ-loop
 slice-write-a-2 c = search needs
 
--- src/lib.rt:49:1
 same-length : tie.Need-same-length Inv-loop μ-loop
 same-length c =
     length-set (c .before .loop .a) _ _ ∙ c .before .loop .inv .0
 
--- src/lib.rt:49:1
 returns : tie.Need-returns Inv-loop μ-loop
 returns c =
     let v = c .before .loop in

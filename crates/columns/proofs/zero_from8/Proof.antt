@@ -1,16 +1,14 @@
 -- The answer so far tells of the places passed. The measure is the places left.
-use Prim.Native.Nat.{ℕ, _≤_, _<_, _-_, _+_}
+use Prim.Native.Nat.{ℕ, _≤_, _-_}
 use mathlib.Core.Path.{_≡_}
 use lib.ListN.{length, getD}
 use Rattle.standard.specs.Tells.{Tells}
-use Rattle.standard.proofs.Tells.{tells-eq, tells-lt}
-use Rattle.columns.proofs.Tested.{Passed, passed-none, passed-more, zero-told, under-told, rising-told, step-told}
+use Rattle.standard.proofs.Tells.{tells-eq}
+use Rattle.columns.proofs.Tested.{Passed, passed-none, passed-more, zero-told}
 use borrow.Author.Needs.{needs}
 use native.Mathlib.Omega.{arith}
 use Rattle.columns.proofs.zero_from8.Statement.{statement}
 use Rattle.columns.proofs.zero_from8.Tie as tie
-use Rattle.columns.proofs.zero_from8.Reads as reads
-use Rattle.columns.proofs.zero_from8.Lts as lts
 
 abbrev Inv-loop : tie.InvT-loop
 Inv-loop a n ok₀ i₀ ok i = (n ≤ i) × Tells (Passed (λ (j : ℕ). getD a j 0 ≡ 0) n i) ok
@@ -18,30 +16,24 @@ Inv-loop a n ok₀ i₀ ok i = (n ≤ i) × Tells (Passed (λ (j : ℕ). getD a 
 abbrev μ-loop : tie.MeasureT-loop
 μ-loop a n ok₀ i₀ ok i = length a - i
 
--- src/lib.rt:134:5
 loop-holds : tie.Need-loop-holds Inv-loop μ-loop
 loop-holds c = (search needs, passed-none _ _)
 
--- src/lib.rt:135:20
 shared-slice-read-ok : tie.Need-shared-slice-read-ok Inv-loop μ-loop
 shared-slice-read-ok c = search needs
 
--- src/lib.rt:136:9
 add-i : tie.Need-add-i Inv-loop μ-loop
 add-i c = search needs
 
--- src/lib.rt:134:5
 loop-less : tie.Need-loop-less Inv-loop μ-loop
 loop-less c = search needs
 
--- src/lib.rt:134:5
 loop-again : tie.Need-loop-again Inv-loop μ-loop
 loop-again c =
     let v = c .before .before .loop in
     let s = c .before .before .before in
     (omega (arith, v .inv .0), passed-more _ (s .args .n) (v .i) _ _ (v .inv .0) (tells-eq (getD (s .args .a .now) (v .i) 0) 0) (v .inv .1))
 
--- src/lib.rt:129:1
 returns : tie.Need-returns Inv-loop μ-loop
 returns c = zero-told (c .before .before .args .a .now) (c .before .loop .i) _ (c .before .before .args .n) (omega arith) (c .before .loop .inv .1)
 

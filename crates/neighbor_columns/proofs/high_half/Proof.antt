@@ -1,0 +1,15 @@
+-- The fields of the word, one by one.
+use Rattle.neighbor_columns.specs.Codec.{highHalf}
+use borrow.Author.Needs.{needs}
+use Rattle.neighbor_columns.proofs.high_half.Statement.{statement}
+use Rattle.neighbor_columns.proofs.high_half.Tie as tie
+
+cast-result : tie.Need-cast-result
+cast-result c = search needs
+
+returns : tie.Need-returns
+unfolding highHalf
+returns c = search needs
+
+pub high-half-spec : {M : Type 1} → statement M
+high-half-spec = tie.close (tie.spec cast-result returns)

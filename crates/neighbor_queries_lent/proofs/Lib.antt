@@ -1,0 +1,3 @@
+pub mod Words
+pub mod Loops
+pub mod Ready

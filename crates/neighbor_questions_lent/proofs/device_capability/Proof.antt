@@ -1,0 +1,64 @@
+-- The link word of the row says it.
+use native.Mathlib.Omega.{arith}
+use mathlib.Core.Option.{Option}
+use mathlib.Core.Path.{sym, ap, _∙_}
+use Rattle.neighbor_table.specs.declared.NeighborEntry.{NeighborEntry}
+use Rattle.neighbor_table.specs.Table.{looked}
+use Rattle.neighbor_columns.specs.Codec.{neighborFrom}
+use Rattle.neighbor_columns.specs.Lent.{lentLinks}
+use Rattle.neighbor_columns.proofs.Rows.{found-row, missing-row}
+use Rattle.neighbor_questions_lent.proofs.Places.{found-in-use}
+use Rattle.neighbors.specs.Answers.{capabilityIn}
+use borrow.Author.Needs.{needs}
+use Rattle.neighbor_questions_lent.proofs.device_capability.Statement.{statement}
+use Rattle.neighbor_questions_lent.proofs.device_capability.Tie as tie
+
+place-of-requires : tie.Need-place-of-requires
+place-of-requires c κs =
+    let s = c .before .before in
+    (omega (arith, s .pre .small, s .pre .long .0), s .pre .rising)
+
+enum-known-place : tie.Need-enum-known-place
+enum-known-place c = search needs
+
+mul-link-of : tie.Need-mul-link-of
+mul-link-of c =
+    let s = c .before .before .before .before .before .before in
+    omega (arith, s .pre .small, s .pre .long .1 .0, found-in-use (s .args .keys .now) (s .args .count) (s .args .eui64 .0) (c .before .place .given .0 .0) (omega (arith, s .pre .small, s .pre .long .0)) (sym (c .before .place .given .1) ∙ c .before .before .before .place-of .ensures))
+
+shared-slice-read-link-of : tie.Need-shared-slice-read-link-of
+shared-slice-read-link-of c =
+    let s = c .before .before .before .before .before .before .before in
+    omega (arith, s .pre .small, s .pre .long .1 .0, found-in-use (s .args .keys .now) (s .args .count) (s .args .eui64 .0) (c .before .before .place .given .0 .0) (omega (arith, s .pre .small, s .pre .long .0)) (sym (c .before .before .place .given .1) ∙ c .before .before .before .before .place-of .ensures))
+
+link-of-requires : tie.Need-link-of-requires
+link-of-requires c κs = search needs
+
+enum-told : tie.Need-enum-told
+enum-told c = search needs
+
+returns : tie.Need-returns
+unfolding neighborFrom
+returns c =
+    let s = c .before .before .before .before .before .before .before .before in
+    let on = lentLinks (s .args .keys .now) (s .args .links .now) (s .args .count) in
+    λ t f. rw (c .link-of .ensures) (ap (λ (o : Option NeighborEntry). capabilityIn (looked o)) (sym (found-row (on t) f (s .args .eui64 .0) (c .before .before .before .place .given .0 .0) (sym (c .before .before .before .place .given .1) ∙ c .before .before .before .before .before .place-of .ensures))))
+
+returns-2 : tie.Need-returns-2
+returns-2 c =
+    let s = c .before .before .before .before .before in
+    let on = lentLinks (s .args .keys .now) (s .args .links .now) (s .args .count) in
+    λ t f. ap (λ (o : Option NeighborEntry). capabilityIn (looked o)) (sym (missing-row (on t) f (s .args .eui64 .0) (c .enum-told .given .0 .0) (sym (c .enum-told .given .1) ∙ c .before .before .place-of .ensures)))
+
+pub device-capability-spec : {M : Type 1} → statement M
+device-capability-spec =
+    tie.close
+    (tie.spec
+    place-of-requires
+    enum-known-place
+    mul-link-of
+    shared-slice-read-link-of
+    link-of-requires
+    enum-told
+    returns
+    returns-2)
