@@ -1,0 +1,3 @@
+pub mod Relays
+pub mod Ways
+pub mod Rows
