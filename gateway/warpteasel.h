@@ -18,7 +18,7 @@ extern "C" {
 #endif
 
 /* How many numbers an image has, and how many an answer needs. */
-#define WARPTEASEL_IMAGE 4714
+#define WARPTEASEL_IMAGE 3242
 #define WARPTEASEL_ANSWER 258
 
 /* What warpteasel_new and warpteasel_call return. */

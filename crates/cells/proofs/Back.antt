@@ -1,17 +1,14 @@
--- What is written is read back: numbers, flags, keys and rows, wherever they stand.
+-- What is written is read back: numbers, keys and columns, wherever they stand.
 -- Each law is over what stands from a place on, so that it holds in any image.
 -- Assumes nothing.
-use Prim.Native.Nat.{ℕ, _+_, _*_, _%_, _<_}
-use mathlib.Core.Bool.{Bool, true, false, not}
-use mathlib.Core.List.{List, [], _∷_, _++_, append-assoc, map, map-id, flatMap}
+use Prim.Native.Nat.{ℕ, _+_, _%_, _<_}
+use mathlib.Core.List.{List, [], _∷_, _++_, append-assoc, map, map-id}
 use mathlib.Core.Path.{_≡_, refl, sym, ap, ap₂, _∙_}
-use native.Mathlib.Nat.{add-mul, one-mul, zero-mul, add-zero, mod-eq-of-lt}
+use native.Mathlib.Nat.{add-zero, mod-eq-of-lt}
 use native.Mathlib.Omega.{arith}
-use lib.Dec.{eqb}
 use lib.ListN.{length, drop, getD}
 use lib.Seq.{getD-drop, drop-drop, drop-at}
 use Rattle.numbers.specs.Read.{numberAt, listed}
-use Rattle.numbers.specs.Said.{flagNumber}
 use Rattle.flat_map.specs.Table.{Each}
 use Rattle.cells.specs.Keys.{keysAt, cutAt}
 
@@ -25,10 +22,6 @@ first-there xs ys b h = ap (numberAt xs) (sym (add-zero b)) ∙ there xs ys b 0 
 -- a number that fits its field is not cut
 pub cut-back : {n m : ℕ} (k : ℕ) → n ≡ m → m < k → n % k ≡ m
 cut-back k e h = ap (λ (n : ℕ). n % k) e ∙ mod-eq-of-lt h
-
-pub flag-back : {n : ℕ} (b : Bool) → n ≡ flagNumber b → not (eqb n 0) ≡ b
-flag-back true e = ap (λ (n : ℕ). not (eqb n 0)) e
-flag-back false e = ap (λ (n : ℕ). not (eqb n 0)) e
 
 -- what stands after a first part
 pub after : (p q xs : List ℕ) (b w : ℕ) → drop b xs ≡ p ++ q → length p ≡ w → drop (b + w) xs ≡ q
@@ -62,24 +55,7 @@ pub column-back : (k : ℕ) (ns xs rest : List ℕ) (b n : ℕ) → drop b xs �
 unfolding cutAt
 column-back k ns xs rest b n h l a = numbers-back (λ i. i % k) ns xs rest b n h l ∙ cut-each k ns a
 
--- rows of w numbers each, of elements that are read back one by one
-module _ {E : Type 0} (g : E → List ℕ) (w : ℕ) (r : List ℕ → ℕ → E) (P : E → Type 0) (sized : (e : E) → length (g e) ≡ w) (back : (e : E) (xs rest : List ℕ) (b : ℕ) → drop b xs ≡ g e ++ rest → P e → r xs b ≡ e) where
-  rows-from : (es : List E) (xs rest : List ℕ) (b i : ℕ) → drop (b + i * w) xs ≡ flatMap g es ++ rest → Each P es → listed (λ k. r xs (b + k * w)) i (length es) ≡ es
-  unfolding listed flatMap
-  rows-from [] xs rest b i h a = refl
-  rows-from (e ∷ es) xs rest b i h a =
-      let s : b + (i + 1) * w ≡ b + i * w + w = simp (add-mul, one-mul) (omega arith) in
-      let h′ : drop (b + i * w) xs ≡ g e ++ (flatMap g es ++ rest) = h ∙ append-assoc (g e) (flatMap g es) rest in
-      ap₂ (λ (x : E) (l : List E). x ∷ l)
-      (back e xs (flatMap g es ++ rest) (b + i * w) h′ (a .0))
-      (rows-from es xs rest b (i + 1) (ap (λ (m : ℕ). drop m xs) s ∙ after (g e) (flatMap g es ++ rest) xs (b + i * w) w h′ (sized e)) (a .1))
-
-  pub rows-back : (es : List E) (xs rest : List ℕ) (b n : ℕ) → drop b xs ≡ flatMap g es ++ rest → length es ≡ n → Each P es → listed (λ k. r xs (b + k * w)) 0 n ≡ es
-  rows-back es xs rest b n h l a =
-      let s : b + 0 * w ≡ b = simp zero-mul (omega arith) in
-      ap (listed (λ k. r xs (b + k * w)) 0) (sym l) ∙ rows-from es xs rest b 0 (ap (λ (m : ℕ). drop m xs) s ∙ h) a
-
--- the parts of a table that stands from a place on: its keys, and its rows
+-- the parts of a table that stands from a place on: its keys, and what follows them
 module _ (c : ℕ) (keys rows xs rest : List ℕ) (b : ℕ) (h : drop b xs ≡ c ∷ (keys ++ rows ++ rest)) where
   pub keys-part : drop (b + 1) xs ≡ keys ++ (rows ++ rest)
   keys-part = after (c ∷ []) (keys ++ rows ++ rest) xs b 1 h refl ∙ append-assoc keys rows rest
@@ -94,3 +70,17 @@ module _ (c : ℕ) (keys words last xs rest : List ℕ) (b n : ℕ) (h : drop b 
 
   pub last-part : length words ≡ n → drop (b + 1 + n + n) xs ≡ last ++ rest
   last-part w = after words (last ++ rest) xs (b + 1 + n) n words-part w
+
+-- and four columns of n numbers
+module _ (k l m o xs rest : List ℕ) (b n : ℕ) (h : drop b xs ≡ (k ++ (l ++ (m ++ o))) ++ rest) where
+  pub first-column : drop b xs ≡ k ++ (l ++ (m ++ (o ++ rest)))
+  first-column = h ∙ simp append-assoc
+
+  pub second-column : length k ≡ n → drop (b + n) xs ≡ l ++ (m ++ (o ++ rest))
+  second-column e = after k (l ++ (m ++ (o ++ rest))) xs b n first-column e
+
+  pub third-column : length k ≡ n → length l ≡ n → drop (b + n + n) xs ≡ m ++ (o ++ rest)
+  third-column e f = after l (m ++ (o ++ rest)) xs (b + n) n (second-column e) f
+
+  pub fourth-column : length k ≡ n → length l ≡ n → length m ≡ n → drop (b + n + n + n) xs ≡ o ++ rest
+  fourth-column e f g = after m (o ++ rest) xs (b + n + n) n (third-column e f) g

@@ -1,13 +1,13 @@
 // The places of an image of numbers: where each part begins, and how columns of numbers are put there and read.
-// 0 a mark, 1 a version, 2 and 3 the trigger counters, 4 the last request id; then the routes, the discoveries and the records: each its
-// count and its columns; then the neighbours and the waiting samples: each its count, its keys and its rows; last the 2,048 numbers of
-// the relay store. Places not in use stand there too, so that damage to them shows.
+// 0 a mark, 1 a version, 2 and 3 the trigger counters, 4 the last request id; then the routes, the discoveries, the records, the
+// neighbours and the waiting samples: each its count and its columns; last the 2,048 numbers of the relay store. Places not in use stand
+// there too, so that damage to them shows.
 ghost use mathlib.Core.Path.{_≡_};
 ghost use Prim.Native.Nat.{_<_};
 ghost use lib.Seq.{sets};
 ghost use Rattle.cells.specs.Keys.{keysAt, cutAt};
 
-// Where each table's count stands, and where each of its columns, or its rows, begins.
+// Where each table's count stands, and where each of its columns begins.
 pub const ROUTES: usize = 5;
 
 pub const ROUTE_KEYS: usize = 6;
@@ -32,16 +32,36 @@ pub const RECORD_LENGTHS: usize = 360;
 
 pub const NEIGHBORS: usize = 424;
 
-pub const NEIGHBOR_ROWS: usize = 489;
+pub const NEIGHBOR_KEYS: usize = 425;
 
-pub const WAITING: usize = 2217;
+pub const NEIGHBOR_NWKS: usize = 489;
 
-pub const WAITING_ROWS: usize = 2282;
+pub const NEIGHBOR_LINKS: usize = 553;
+
+pub const NEIGHBOR_COUNTS: usize = 617;
+
+pub const NEIGHBOR_DEADLINES: usize = 681;
+
+pub const NEIGHBOR_PERIODS: usize = 745;
+
+pub const NEIGHBOR_HEARD: usize = 809;
+
+pub const NEIGHBOR_ADDED: usize = 873;
+
+pub const NEIGHBOR_BEACONS: usize = 937;
+
+pub const NEIGHBOR_BYTES: usize = 1001;
+
+pub const WAITING: usize = 1065;
+
+pub const SENDERS: usize = 1066;
+
+pub const SAMPLES: usize = 1130;
 
 // Where the relay store begins, and how many numbers an image has.
-pub const STORE: usize = 2666;
+pub const STORE: usize = 1194;
 
-pub const LENGTH: usize = 4714;
+pub const LENGTH: usize = 3242;
 
 // Numbers put one after another from a place on; what would stand past the end is left out.
 pub fn put_each(image: &mut [u64], base: usize, xs: &[u64])

@@ -12,7 +12,7 @@ use Rattle.flat_map.proofs.Ordered.{none-some, lookup-key}
 use Rattle.neighbor_table.specs.declared.NeighborEntry.{NeighborEntry}
 use Rattle.neighbor_table.specs.declared.NeighborLookup.{NeighborLookup}
 use Rattle.neighbor_table.specs.Entry.{neighborKey}
-use Rattle.neighbor_table.specs.Table.{looked}
+use Rattle.neighbor_table.specs.Lookup.{looked}
 use Rattle.neighbor_queries.specs.declared.Filter.the-variants.{Address}
 use Rattle.neighbor_queries.specs.Filter.{fits}
 use Rattle.children.specs.declared.MaybeEui64.{MaybeEui64}

@@ -17,8 +17,8 @@ use Rattle.neighbor_queries.specs.declared.Filter.the-variants.{EndDeviceChildA
 use Rattle.neighbor_changes.specs.declared.Change.the-variants.{Keepalive, Timeout}
 use Rattle.neighbor_changes.specs.Change.{applied}
 use Rattle.neighbor_changes.specs.Rules.{changedFirst}
-use Rattle.neighbors.specs.declared.Truth.{Truth}
-use Rattle.neighbors.specs.declared.Truth.the-variants as truths
+use Rattle.neighbor_queries.specs.declared.Truth.{Truth}
+use Rattle.neighbor_queries.specs.declared.Truth.the-variants as truths
 use Rattle.children.specs.declared.MaybeEui64.{MaybeEui64}
 use Rattle.children.specs.declared.MaybeNwk.{MaybeNwk}
 use Rattle.children.specs.Known.{known}

@@ -3,7 +3,7 @@
 use children::MaybeEui64;
 use children::MaybeNwk;
 use flat_map::Place;
-use neighbors::Truth;
+use neighbor_queries::Truth;
 use types::Nwk;
 use types::Refusal;
 use types::Sum;

@@ -19,12 +19,13 @@ use Rattle.flat_map.proofs.Every.{every-lookup}
 use Rattle.neighbor_table.specs.declared.NeighborEntry.{NeighborEntry}
 use Rattle.neighbor_table.specs.Entry.{neighborKey, isChild, isSound}
 use Rattle.neighbor_columns.specs.Codec.{linkOf, neighborFrom}
-use Rattle.neighbor_columns.specs.Table.{NeighborTable, rowsOf, rowAt, WellFormed, Keeps, Holds, removed, looked}
+use Rattle.neighbor_columns.specs.Table.{NeighborTable, rowsOf, rowAt, WellFormed, Keeps, Holds, removed}
+use Rattle.neighbor_table.specs.Lookup.{looked}
 use Rattle.neighbor_columns.proofs.Rows.{taken-out, remove-holds, put-holds}
-use Rattle.neighbors.specs.declared.NwkAnswer.{NwkAnswer}
-use Rattle.neighbors.specs.declared.NwkAnswer.the-variants as addresses
-use Rattle.neighbors.specs.declared.Answer.{Answer}
-use Rattle.neighbors.specs.declared.Answer.the-variants as answers
+use Rattle.neighbor_queries.specs.declared.NwkAnswer.{NwkAnswer}
+use Rattle.neighbor_queries.specs.declared.NwkAnswer.the-variants as addresses
+use Rattle.neighbor_queries.specs.declared.Answer.{Answer}
+use Rattle.neighbor_queries.specs.declared.Answer.the-variants as answers
 use Rattle.children.specs.declared.ChildDescriptor.{ChildDescriptor}
 use Rattle.children.specs.Attach.{startIn, attached}
 use Rattle.children.proofs.Found.{start-key}

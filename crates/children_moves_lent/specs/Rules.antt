@@ -14,11 +14,11 @@ use Rattle.types.specs.Clock.{timeSum}
 use Rattle.standard.specs.Ordered.{lookup, put, remove, countWith}
 use Rattle.neighbor_table.specs.declared.NeighborEntry.{NeighborEntry}
 use Rattle.neighbor_table.specs.Entry.{neighborKey, isChild}
-use Rattle.neighbor_columns.specs.Table.{looked}
-use Rattle.neighbors.specs.declared.NwkAnswer.{NwkAnswer}
-use Rattle.neighbors.specs.declared.NwkAnswer.the-variants as addresses
-use Rattle.neighbors.specs.declared.Answer.{Answer}
-use Rattle.neighbors.specs.declared.Answer.the-variants as answers
+use Rattle.neighbor_table.specs.Lookup.{looked}
+use Rattle.neighbor_queries.specs.declared.NwkAnswer.{NwkAnswer}
+use Rattle.neighbor_queries.specs.declared.NwkAnswer.the-variants as addresses
+use Rattle.neighbor_queries.specs.declared.Answer.{Answer}
+use Rattle.neighbor_queries.specs.declared.Answer.the-variants as answers
 use Rattle.children.specs.declared.ChildDescriptor.{ChildDescriptor}
 use Rattle.children.specs.Attach.{startIn, attached}
 

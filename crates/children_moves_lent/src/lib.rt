@@ -2,8 +2,8 @@
 // Each call decides its refusals before it writes, and answers how many neighbours there are after it.
 use children::ChildDescriptor;
 use flat_map::Place;
-use neighbors::Answer;
-use neighbors::NwkAnswer;
+use neighbor_queries::Answer;
+use neighbor_queries::NwkAnswer;
 use types::Eui64;
 use types::Nwk;
 use types::Refusal;

@@ -7,12 +7,12 @@ use lib.ListN.{getD}
 use Rattle.types.specs.declared.Nwk.{Nwk}
 use Rattle.numbers.specs.Read.{numberAt, byteAt, flagAt, nwkAt}
 use Rattle.route_args.specs.Read.{relaysAt}
-use Rattle.next_hop.specs.declared.HostRoute.the-variants.{NextHop, SourceRoute}
-use Rattle.next_hop.specs.declared.RouteDirective.the-variants.{StackDecides, Hint, Force}
-use Rattle.next_hop.specs.declared.SendKind.{SendKind}
-use Rattle.next_hop.specs.declared.SendKind.the-variants.{Direct, Route}
+use Rattle.hop_choice.specs.declared.HostRoute.the-variants.{NextHop, SourceRoute}
+use Rattle.hop_choice.specs.declared.RouteDirective.the-variants.{StackDecides, Hint, Force}
+use Rattle.hop_choice.specs.declared.SendKind.{SendKind}
+use Rattle.hop_choice.specs.declared.SendKind.the-variants.{Direct, Route}
 use Rattle.next_hop.specs.declared.SendMode.{SendMode}
-use Rattle.next_hop.specs.declared.Policy.{Policy}
+use Rattle.hop_choice.specs.declared.Policy.{Policy}
 
 -- the kinds in the order of their numbers, for a hop that may be named
 abbrev pub kinds : Nwk → List SendKind

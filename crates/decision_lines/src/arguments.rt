@@ -1,12 +1,12 @@
 // The mode and the policy of a decision read from numbers, and its answers as numbers.
 use frame::NwkHeader;
-use neighbors::Truth;
-use next_hop::HostRoute;
+use hop_choice::HostRoute;
+use hop_choice::Policy;
+use hop_choice::RouteDirective;
+use hop_choice::SendKind;
+use neighbor_queries::Truth;
 use next_hop::NextHop;
-use next_hop::Policy;
 use next_hop::ResolveOutcome;
-use next_hop::RouteDirective;
-use next_hop::SendKind;
 use next_hop::SendMode;
 use numbers::Answer;
 use relay_header::ClearOutcome;

@@ -6,7 +6,6 @@ pub mod Shift
 pub mod Rows
 pub mod Ordered
 pub mod Table
-pub mod WellFormed
 pub mod Change
 pub mod Fits
 pub mod Each
@@ -15,5 +14,4 @@ pub mod Mapped
 pub mod Every
 pub mod Lists
 pub mod Filter
-pub mod Kept
 pub mod Left

@@ -1,5 +1,4 @@
--- Tests that are computed tell what they test: a conjunction, comparisons, a test of every element,
--- and with these the well-formedness of a table.
+-- A test of every element, computed, tells what it tests.
 use Prim.Native.Nat.{ℕ, zero, suc, _≤_, zero-le, suc-le-suc}
 use native.Mathlib.Omega.{arith}
 use native.Mathlib.Nat.{le-of-suc-le-suc}
@@ -8,14 +7,8 @@ use mathlib.Core.List.{List, [], _∷_}
 use mathlib.Core.Path.{_≡_, refl}
 use lib.ListN.{getD, drop}
 use Rattle.standard.specs.Tells.{Tells}
-use Rattle.standard.proofs.Tells.{yes-so, not-so, tells-both, tells-eq, tells-so}
-use Rattle.flat_map.specs.Table.{sameKeys, every}
-
-pub same-told : (xs ys : List ℕ) → Tells (xs ≡ ys) (sameKeys xs ys)
-same-told [] [] = yes-so refl
-same-told [] (y ∷ ys) = not-so (λ e. let z : _≡_ {A = ℕ} 0 1 = cc in omega arith)
-same-told (x ∷ xs) [] = not-so (λ e. let z : _≡_ {A = ℕ} 0 1 = cc in omega arith)
-same-told (x ∷ xs) (y ∷ ys) = tells-so (λ p. λ z. p .0 z ∷ p .1 z) (λ e. (cc, cc)) (tells-both (tells-eq x y) (same-told xs ys))
+use Rattle.standard.proofs.Tells.{yes-so, tells-both, tells-so}
+use Rattle.flat_map.specs.Table.{every}
 
 -- every element from n on is b, where the test tells b
 pub every-told : {A : Type 0} (b : A) (test : A → Bool) → ((x : A) → Tells (x ≡ b) (test x)) → (xs : List A) (n : ℕ)

@@ -2,11 +2,11 @@
 -- Document 01: "counts within capacity, keys strictly ascending and equal to the entry's own fields, .. unused places blank".
 -- Assumes nothing.
 use Prim.Native.Nat.{ℕ, _+_, _<_, _≤_}
-use mathlib.Core.Bool.{Bool, true, false, _&&_}
+use mathlib.Core.Bool.{Bool, true, _&&_}
 use mathlib.Core.List.{List, [], _∷_, map}
 use mathlib.Core.Path.{_≡_}
-use lib.Dec.{eqb, ltb, leb}
-use lib.ListN.{length, take, drop, getD}
+use lib.Dec.{ltb}
+use lib.ListN.{length, getD}
 use Rattle.standard.specs.Ordered.{Ascending}
 use Rattle.flat_map.specs.Rows.{pad}
 
@@ -23,13 +23,6 @@ abbrev pub ascends : List ℕ → Bool
 ascends [] = true
 ascends (x ∷ []) = true
 ascends (x ∷ y ∷ r) = ltb x y && ascends (y ∷ r)
-
--- two lists of numbers are equal, computed
-abbrev pub sameKeys : List ℕ → List ℕ → Bool
-sameKeys [] [] = true
-sameKeys [] (y ∷ ys) = false
-sameKeys (x ∷ xs) [] = false
-sameKeys (x ∷ xs) (y ∷ ys) = eqb x y && sameKeys xs ys
 
 -- each element has a property
 abbrev pub Each : {A : Type 0} → (A → Type 0) → List A → Type 0
@@ -62,14 +55,3 @@ module _ {E : Type 0} (cap : ℕ) (keyOf : E → ℕ) (blank : E) where
     pub keys-are : keys ≡ pad cap 0 (map keyOf xs)
     pub entries-are : entries ≡ pad cap blank xs
     pub count-is : count ≡ length xs
-
--- `Formed`, computed; isBlank tells the blank entry
-unfoldable pub formed : {E : Type 0} → ℕ → (E → ℕ) → (E → Bool) → List ℕ → List E → ℕ → Bool
-formed cap keyOf isBlank keys entries count =
-    eqb (length keys) cap
-    && (eqb (length entries) cap
-    && (leb count cap
-    && (ascends (take count keys)
-    && (sameKeys (take count keys) (map keyOf (take count entries))
-    && (every (eqb 0) (drop count keys)
-    && every isBlank (drop count entries))))))

@@ -12,12 +12,10 @@ use Rattle.neighbors.specs.declared.Neighbors.{Neighbors}
 use Rattle.world.specs.declared.World.{World}
 use Rattle.flat_map.specs.Table.{Each}
 use Rattle.cells.specs.Layout.{routesPlace, routeKeysPlace, routeWordsPlace, routeUsagePlace, discoveriesPlace, discoveryKeysPlace, discoveryWordsPlace, discoveryEndsPlace, recordsPlace, recordKeysPlace, recordLengthsPlace, neighborsPlace}
-use Rattle.cells.proofs.Back.{after, there, first-there, cut-back, keys-back, column-back, keys-part, rows-part, words-part, last-part}
-use Rattle.neighbor_image.specs.Neighbors.{waitingTableNumbers}
-use Rattle.neighbor_image.specs.Neighbors as tables
-use Rattle.neighbor_image.proofs.Back.{NeighborFits, WaitingFits, neighbors-back, waiting-back}
-use Rattle.image.specs.Image.{headNumbers, routesNumbers, discoveriesNumbers, recordsNumbers, routingIn, neighborsIn, worldIn, routingNumbers, neighborsNumbers, worldNumbers}
-use Rattle.image.proofs.Lengths.{Long, routes-long, discoveries-long, routing-long, neighbors-long}
+use Rattle.cells.specs.Layout.{neighborKeysPlace, neighborNwksPlace, neighborLinksPlace, neighborCountsPlace, neighborDeadlinesPlace, neighborPeriodsPlace, neighborHeardPlace, neighborAddedPlace, neighborBeaconsPlace, neighborBytesPlace, waitingPlace, sendersPlace, samplesPlace}
+use Rattle.cells.proofs.Back.{after, there, first-there, cut-back, keys-back, column-back, keys-part, rows-part, words-part, last-part, first-column, second-column, third-column, fourth-column}
+use Rattle.image.specs.Image.{headNumbers, routesNumbers, discoveriesNumbers, recordsNumbers, namesNumbers, linksNumbers, heardNumbers, waitingNumbers, routingIn, neighborsIn, worldIn, routingNumbers, neighborsNumbers, worldNumbers}
+use Rattle.image.proofs.Lengths.{Long, routes-long, discoveries-long, routing-long, AllLong, names-long, links-long, heard-long}
 
 -- a column whose numbers are below a limit
 abbrev pub Below : ℕ → List ℕ → Type 0
@@ -35,16 +33,11 @@ pub record RoutingFits (r : Routing) : Type 0 where
   pub «record_keys» : Below 65536 (r .«record_keys»)
   pub «record_lengths» : Below 256 (r .«record_lengths»)
 
--- keys and rows of 64 places, each row with a property
-pub record Held {E : Type 0} (P : E → Type 0) (keys : List ℕ) (es : List E) : Type 0 where
-  pub keyed : length keys ≡ 64
-  pub placed : length es ≡ 64
-  pub each : Each P es
-
--- neighbours whose numbers fit
+-- neighbours whose addresses fit; their other columns may hold any number
 pub record NeighborsFit (m : Neighbors) : Type 0 where
-  pub table : Held NeighborFits (m .table .keys) (m .table .entries)
-  pub waiting : Held WaitingFits (m .«pending_lqas» .keys) (m .«pending_lqas» .entries)
+  pub long : AllLong m
+  pub nwks : Below 65536 (m .nwks)
+  pub senders : Below 65536 (m .senders)
 
 -- a world whose numbers fit
 pub record WorldFits (w : World) : Type 0 where
@@ -94,15 +87,47 @@ routing-back r xs rest e f =
       records = first-there xs (recordsNumbers r ++ rest) recordsPlace s z;
     }
 
-pub both-back : (m : Neighbors) (xs rest : List ℕ) → drop neighborsPlace xs ≡ neighborsNumbers m ++ rest → NeighborsFit m → neighborsIn xs ≡ m
-unfolding neighborsIn neighborsNumbers
-both-back m xs rest e f =
-    let n = tables.neighborsNumbers (m .table) in
-    let t = waitingTableNumbers (m .«pending_lqas») in
-    let h = e ∙ append-assoc n t rest in
+-- where each part of the neighbours stands
+module _ (m : Neighbors) (xs rest : List ℕ) (l : AllLong m) (e : drop neighborsPlace xs ≡ neighborsNumbers m ++ rest) where
+  names-part : drop neighborsPlace xs ≡ namesNumbers m ++ (linksNumbers m ++ (heardNumbers m ++ (waitingNumbers m ++ rest)))
+  unfolding neighborsNumbers
+  names-part = e ∙ simp append-assoc
+
+  links-part : drop neighborLinksPlace xs ≡ linksNumbers m ++ (heardNumbers m ++ (waitingNumbers m ++ rest))
+  links-part = after (namesNumbers m) (linksNumbers m ++ (heardNumbers m ++ (waitingNumbers m ++ rest))) xs neighborsPlace 129 names-part (names-long m l)
+
+  heard-part : drop neighborHeardPlace xs ≡ heardNumbers m ++ (waitingNumbers m ++ rest)
+  heard-part = after (linksNumbers m) (heardNumbers m ++ (waitingNumbers m ++ rest)) xs neighborLinksPlace 256 links-part (links-long m l)
+
+  waiting-part : drop waitingPlace xs ≡ waitingNumbers m ++ rest
+  waiting-part = after (heardNumbers m) (waitingNumbers m ++ rest) xs neighborHeardPlace 256 heard-part (heard-long m l)
+
+pub neighbors-back : (m : Neighbors) (xs rest : List ℕ) → drop neighborsPlace xs ≡ neighborsNumbers m ++ rest → NeighborsFit m → neighborsIn xs ≡ m
+unfolding neighborsIn namesNumbers linksNumbers heardNumbers waitingNumbers
+neighbors-back m xs rest e f =
+    let l = f .long in
+    let c = waitingNumbers m ++ rest in
+    let d = heardNumbers m ++ c in
+    let b = linksNumbers m ++ d in
+    let p = names-part m xs rest l e in
+    let q = links-part m xs rest l e in
+    let h = heard-part m xs rest l e in
+    let w = waiting-part m xs rest l e in
     λ z. record {
-      table = neighbors-back (m .table) xs (t ++ rest) h (f .table .keyed) (f .table .placed) (f .table .each) z;
-      «pending_lqas» = waiting-back (m .«pending_lqas») xs rest (after n (t ++ rest) xs neighborsPlace 1793 h (neighbors-long (m .table) (f .table .keyed) (f .table .placed))) (f .waiting .keyed) (f .waiting .placed) (f .waiting .each) z;
+      keys = keys-back (m .keys) xs (m .nwks ++ b) neighborKeysPlace 64 (keys-part (m .count) (m .keys) (m .nwks) xs b neighborsPlace p) (l .keys) z;
+      nwks = column-back 65536 (m .nwks) xs b neighborNwksPlace 64 (rows-part (m .count) (m .keys) (m .nwks) xs b neighborsPlace p 64 (l .keys)) (l .nwks) (f .nwks) z;
+      links = keys-back (m .links) xs (m .counts ++ (m .deadlines ++ (m .periods ++ d))) neighborLinksPlace 64 (first-column (m .links) (m .counts) (m .deadlines) (m .periods) xs d neighborLinksPlace 64 q) (l .links) z;
+      counts = keys-back (m .counts) xs (m .deadlines ++ (m .periods ++ d)) neighborCountsPlace 64 (second-column (m .links) (m .counts) (m .deadlines) (m .periods) xs d neighborLinksPlace 64 q (l .links)) (l .counts) z;
+      deadlines = keys-back (m .deadlines) xs (m .periods ++ d) neighborDeadlinesPlace 64 (third-column (m .links) (m .counts) (m .deadlines) (m .periods) xs d neighborLinksPlace 64 q (l .links) (l .counts)) (l .deadlines) z;
+      periods = keys-back (m .periods) xs d neighborPeriodsPlace 64 (fourth-column (m .links) (m .counts) (m .deadlines) (m .periods) xs d neighborLinksPlace 64 q (l .links) (l .counts) (l .deadlines)) (l .periods) z;
+      heard = keys-back (m .heard) xs (m .added ++ (m .beacons ++ (m .bytes ++ c))) neighborHeardPlace 64 (first-column (m .heard) (m .added) (m .beacons) (m .bytes) xs c neighborHeardPlace 64 h) (l .heard) z;
+      added = keys-back (m .added) xs (m .beacons ++ (m .bytes ++ c)) neighborAddedPlace 64 (second-column (m .heard) (m .added) (m .beacons) (m .bytes) xs c neighborHeardPlace 64 h (l .heard)) (l .added) z;
+      beacons = keys-back (m .beacons) xs (m .bytes ++ c) neighborBeaconsPlace 64 (third-column (m .heard) (m .added) (m .beacons) (m .bytes) xs c neighborHeardPlace 64 h (l .heard) (l .added)) (l .beacons) z;
+      bytes = keys-back (m .bytes) xs c neighborBytesPlace 64 (fourth-column (m .heard) (m .added) (m .beacons) (m .bytes) xs c neighborHeardPlace 64 h (l .heard) (l .added) (l .beacons)) (l .bytes) z;
+      count = first-there xs (namesNumbers m ++ b) neighborsPlace p z;
+      senders = column-back 65536 (m .senders) xs (m .samples ++ rest) sendersPlace 64 (keys-part (m .waiting) (m .senders) (m .samples) xs rest waitingPlace w) (l .senders) (f .senders) z;
+      samples = keys-back (m .samples) xs rest samplesPlace 64 (rows-part (m .waiting) (m .senders) (m .samples) xs rest waitingPlace w 64 (l .senders)) (l .samples) z;
+      waiting = first-there xs (waitingNumbers m ++ rest) waitingPlace w z;
     }
 
 pub world-back : (w : World) (xs rest : List ℕ) → drop 0 xs ≡ worldNumbers w ++ rest → WorldFits w → worldIn xs ≡ w
@@ -113,7 +138,7 @@ world-back w xs rest e f =
     let h = e ∙ append-assoc s n rest in
     λ z. record {
       routing = routing-back (w .routing) xs (n ++ rest) h (f .routing) z;
-      neighbors = both-back (w .neighbors) xs rest (after s (n ++ rest) xs 0 neighborsPlace h (routing-long (w .routing) (f .routing .long))) (f .neighbors) z;
+      neighbors = neighbors-back (w .neighbors) xs rest (after s (n ++ rest) xs 0 neighborsPlace h (routing-long (w .routing) (f .routing .long))) (f .neighbors) z;
     }
 
 -- what is written is read back

@@ -11,10 +11,8 @@ use Rattle.world.specs.declared.World.{World}
 use Rattle.cells.specs.Layout.{storePlace, imageLength}
 use Rattle.cells.proofs.Back.{after, column-back}
 use Rattle.cells.proofs.Writing.{put-both}
-use Rattle.neighbor_image.specs.Neighbors.{waitingTableNumbers}
-use Rattle.neighbor_image.specs.Neighbors as tables
 use Rattle.image.specs.Image.{routingNumbers, neighborsNumbers, worldNumbers, worldIn, storeIn}
-use Rattle.image.proofs.Lengths.{routing-long, neighbors-long, waiting-long}
+use Rattle.image.proofs.Lengths.{routing-long, neighbors-long}
 use Rattle.image.proofs.Back.{Below, WorldFits, world-back}
 
 -- a store that stands in its place is read
@@ -22,18 +20,15 @@ pub store-there : (store xs rest : List ℕ) → drop storePlace xs ≡ store ++
 unfolding storeIn
 store-there store xs rest h l a = column-back 65536 store xs rest storePlace 2048 h l a
 
--- a world has 2,666 numbers
+-- a world has 1,194 numbers
 pub world-long : (w : World) → WorldFits w → length (worldNumbers w) ≡ storePlace
-unfolding worldNumbers neighborsNumbers
+unfolding worldNumbers
 world-long w f =
-    let m = w .neighbors in
     omega (
       arith,
-      length-append (routingNumbers (w .routing)) (tables.neighborsNumbers (m .table) ++ waitingTableNumbers (m .«pending_lqas»)),
-      length-append (tables.neighborsNumbers (m .table)) (waitingTableNumbers (m .«pending_lqas»)),
+      length-append (routingNumbers (w .routing)) (neighborsNumbers (w .neighbors)),
       routing-long (w .routing) (f .routing .long),
-      neighbors-long (m .table) (f .neighbors .table .keyed) (f .neighbors .table .placed),
-      waiting-long (m .«pending_lqas») (f .neighbors .waiting .keyed) (f .neighbors .waiting .placed),
+      neighbors-long (w .neighbors) (f .neighbors .long),
     )
 
 module _ (w : World) (store xs : List ℕ) (f : WorldFits w) (l : length store ≡ 2048) (a : Below 65536 store) (long : imageLength ≤ length xs) where

@@ -1,32 +1,14 @@
--- How many numbers each table is written as: one law over columns and one over rows, and their instances.
+-- How many numbers each table is written as: the columns are as long as their types say.
 -- Assumes nothing.
-use Prim.Native.Nat.{ℕ, _+_, _*_}
-use mathlib.Core.List.{List, [], _∷_, _++_, flatMap}
-use mathlib.Core.Path.{_≡_, refl, sym, ap, ap₂, _∙_}
-use native.Mathlib.Nat.{zero-mul, suc-mul, add-comm}
+use Prim.Native.Nat.{ℕ, _+_}
+use mathlib.Core.List.{List, _∷_, _++_}
+use mathlib.Core.Path.{_≡_}
 use native.Mathlib.Omega.{arith}
 use lib.ListN.{length, length-append}
-use Rattle.neighbor_values.specs.Values.{neighborNumbers, waitingNumbers}
-use Rattle.neighbor_table.specs.declared.NeighborTable.{NeighborTable}
-use Rattle.waiting_table.specs.declared.WaitingTable.{WaitingTable}
 use Rattle.routing.specs.declared.Routing.{Routing}
+use Rattle.neighbors.specs.declared.Neighbors.{Neighbors}
 use Rattle.cells.specs.Layout.{neighborsPlace}
-use Rattle.image.specs.Image.{headNumbers, routesNumbers, discoveriesNumbers, recordsNumbers, routingNumbers}
-use Rattle.neighbor_image.specs.Neighbors.{neighborsNumbers, waitingTableNumbers}
-
-rows-long : {E : Type 0} (g : E → List ℕ) (w : ℕ) → ((e : E) → length (g e) ≡ w) → (es : List E) → length (flatMap g es) ≡ length es * w
-unfolding flatMap
-rows-long g w h [] = sym (zero-mul w)
-rows-long g w h (e ∷ es) =
-    length-append (g e) (flatMap g es)
-    ∙ ap₂ (λ (m k : ℕ). m + k) (h e) (rows-long g w h es)
-    ∙ add-comm w (length es * w)
-    ∙ sym (suc-mul (length es) w)
-
-table-long : {E : Type 0} (g : E → List ℕ) (w n c : ℕ) (keys : List ℕ) (es : List E) → ((e : E) → length (g e) ≡ w) → length keys ≡ n → length es ≡ n → length (c ∷ keys ++ flatMap g es) ≡ 1 + (n + n * w)
-table-long g w n c keys es h k l =
-    let r : length (flatMap g es) ≡ n * w = rows-long g w h es ∙ ap (λ (m : ℕ). m * w) l in
-    omega (arith, length-append keys (flatMap g es), r)
+use Rattle.image.specs.Image.{headNumbers, routesNumbers, discoveriesNumbers, recordsNumbers, routingNumbers, namesNumbers, linksNumbers, heardNumbers, waitingNumbers, neighborsNumbers}
 
 -- the columns of a routing state are as long as their types say
 pub record Long (r : Routing) : Type 0 where
@@ -38,6 +20,13 @@ pub record Long (r : Routing) : Type 0 where
   pub «discovery_ends» : length (r .«discovery_ends») ≡ 32
   pub «record_keys» : length (r .«record_keys») ≡ 64
   pub «record_lengths» : length (r .«record_lengths») ≡ 64
+
+-- a count and two columns, and three; and four columns
+pair-long : (n c : ℕ) (keys last : List ℕ) → length keys ≡ n → length last ≡ n → length (c ∷ keys ++ last) ≡ 1 + (n + n)
+pair-long n c keys last k l = omega (arith, length-append keys last)
+
+four-long : (n : ℕ) (ks ls ms os : List ℕ) → length ks ≡ n → length ls ≡ n → length ms ≡ n → length os ≡ n → length (ks ++ (ls ++ (ms ++ os))) ≡ n + (n + (n + n))
+four-long n ks ls ms os k l m o = omega (arith, length-append ks (ls ++ (ms ++ os)), length-append ls (ms ++ os), length-append ms os)
 
 columns-long : (n c : ℕ) (keys words last : List ℕ) → length keys ≡ n → length words ≡ n → length last ≡ n → length (c ∷ keys ++ (words ++ last)) ≡ 1 + (n + (n + n))
 columns-long n c keys words last k w l = omega (arith, length-append keys (words ++ last), length-append words last)
@@ -52,7 +41,7 @@ discoveries-long r l = columns-long 32 (r .discoveries) (r .«discovery_keys») 
 
 pub records-long : (r : Routing) → Long r → length (recordsNumbers r) ≡ 129
 unfolding recordsNumbers
-records-long r l = omega (arith, length-append (r .«record_keys») (r .«record_lengths»), l .«record_keys», l .«record_lengths»)
+records-long r l = pair-long 64 (r .records) (r .«record_keys») (r .«record_lengths») (l .«record_keys») (l .«record_lengths»)
 
 -- the head and the three routing tables
 pub routing-long : (r : Routing) → Long r → length (routingNumbers r) ≡ neighborsPlace
@@ -68,10 +57,48 @@ routing-long r l =
       records-long r l,
     )
 
-pub neighbors-long : (t : NeighborTable) → length (t .keys) ≡ 64 → length (t .entries) ≡ 64 → length (neighborsNumbers t) ≡ 1793
-unfolding neighborsNumbers
-neighbors-long t k e = table-long neighborNumbers 27 64 (t .count) (t .keys) (t .entries) (λ x. refl) k e
+-- and so are those of the neighbours
+pub record AllLong (m : Neighbors) : Type 0 where
+  pub keys : length (m .keys) ≡ 64
+  pub nwks : length (m .nwks) ≡ 64
+  pub links : length (m .links) ≡ 64
+  pub counts : length (m .counts) ≡ 64
+  pub deadlines : length (m .deadlines) ≡ 64
+  pub periods : length (m .periods) ≡ 64
+  pub heard : length (m .heard) ≡ 64
+  pub added : length (m .added) ≡ 64
+  pub beacons : length (m .beacons) ≡ 64
+  pub bytes : length (m .bytes) ≡ 64
+  pub senders : length (m .senders) ≡ 64
+  pub samples : length (m .samples) ≡ 64
 
-pub waiting-long : (t : WaitingTable) → length (t .keys) ≡ 64 → length (t .entries) ≡ 64 → length (waitingTableNumbers t) ≡ 449
-unfolding waitingTableNumbers
-waiting-long t k e = table-long waitingNumbers 6 64 (t .count) (t .keys) (t .entries) (λ x. refl) k e
+pub names-long : (m : Neighbors) → AllLong m → length (namesNumbers m) ≡ 129
+unfolding namesNumbers
+names-long m l = pair-long 64 (m .count) (m .keys) (m .nwks) (l .keys) (l .nwks)
+
+pub links-long : (m : Neighbors) → AllLong m → length (linksNumbers m) ≡ 256
+unfolding linksNumbers
+links-long m l = four-long 64 (m .links) (m .counts) (m .deadlines) (m .periods) (l .links) (l .counts) (l .deadlines) (l .periods)
+
+pub heard-long : (m : Neighbors) → AllLong m → length (heardNumbers m) ≡ 256
+unfolding heardNumbers
+heard-long m l = four-long 64 (m .heard) (m .added) (m .beacons) (m .bytes) (l .heard) (l .added) (l .beacons) (l .bytes)
+
+pub waiting-long : (m : Neighbors) → AllLong m → length (waitingNumbers m) ≡ 129
+unfolding waitingNumbers
+waiting-long m l = pair-long 64 (m .waiting) (m .senders) (m .samples) (l .senders) (l .samples)
+
+-- the neighbours and the waiting samples
+pub neighbors-long : (m : Neighbors) → AllLong m → length (neighborsNumbers m) ≡ 770
+unfolding neighborsNumbers
+neighbors-long m l =
+    omega (
+      arith,
+      length-append (namesNumbers m) (linksNumbers m ++ (heardNumbers m ++ waitingNumbers m)),
+      length-append (linksNumbers m) (heardNumbers m ++ waitingNumbers m),
+      length-append (heardNumbers m) (waitingNumbers m),
+      names-long m l,
+      links-long m l,
+      heard-long m l,
+      waiting-long m l,
+    )

@@ -1,5 +1,4 @@
 pub mod Back
 pub mod Lengths
-pub mod Parts
 pub mod Within
 pub mod Kept

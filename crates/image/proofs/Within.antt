@@ -1,6 +1,6 @@
 -- What was compared, and the rest compared after it, is all compared.
 -- Assumes nothing.
-use Prim.Native.Nat.{ℕ, _+_, _%_, _<_, _≤_}
+use Prim.Native.Nat.{ℕ, _+_, _<_, _≤_}
 use mathlib.Core.Bool.{Bool, true, false, _&&_}
 use mathlib.Core.List.{List, _∷_}
 use mathlib.Core.Path.{_≡_, refl, sym, ap, _∙_}
@@ -10,12 +10,12 @@ use lib.ListN.{length, drop, getD, drop-of-length-le}
 use lib.Seq.{drop-cons}
 use Rattle.image.specs.Good.{within}
 
-pub within-next : (limits rows : List ℕ) (i : ℕ) (ok : Bool) → i < length rows → ((ok && leb (getD rows i 0) (getD limits (i % length limits) 0)) && within limits (i + 1) (drop (i + 1) rows)) ≡ (ok && within limits i (drop i rows))
+pub within-next : (most : ℕ) (xs : List ℕ) (i : ℕ) (ok : Bool) → i < length xs → ((ok && leb (getD xs i 0) most) && within most (drop (i + 1) xs)) ≡ (ok && within most (drop i xs))
 unfolding within
-within-next limits rows i false h = refl
-within-next limits rows i true h = sym (ap (within limits i) (drop-cons rows i 0 h ∙ ap (λ (m : ℕ). getD rows i 0 ∷ drop m rows) (sym (add-one i))))
+within-next most xs i false h = refl
+within-next most xs i true h = sym (ap (within most) (drop-cons xs i 0 h ∙ ap (λ (m : ℕ). getD xs i 0 ∷ drop m xs) (sym (add-one i))))
 
-pub within-done : (limits rows : List ℕ) (i : ℕ) (ok : Bool) → length rows ≤ i → (ok && within limits i (drop i rows)) ≡ ok
+pub within-done : (most : ℕ) (xs : List ℕ) (i : ℕ) (ok : Bool) → length xs ≤ i → (ok && within most (drop i xs)) ≡ ok
 unfolding within
-within-done limits rows i false h = refl
-within-done limits rows i true h = ap (within limits i) (drop-of-length-le rows h)
+within-done most xs i false h = refl
+within-done most xs i true h = ap (within most) (drop-of-length-le xs h)

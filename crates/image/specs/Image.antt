@@ -8,9 +8,8 @@ use lib.Seq.{sets}
 use Rattle.numbers.specs.declared.Answer.{Answer}
 use Rattle.numbers.specs.Read.{numberAt, byteAt}
 use Rattle.cells.specs.Layout.{imageMark, imageVersion, routesPlace, routeKeysPlace, routeWordsPlace, routeUsagePlace, discoveriesPlace, discoveryKeysPlace, discoveryWordsPlace, discoveryEndsPlace, recordsPlace, recordKeysPlace, recordLengthsPlace, storePlace}
+use Rattle.cells.specs.Layout.{neighborsPlace, neighborKeysPlace, neighborNwksPlace, neighborLinksPlace, neighborCountsPlace, neighborDeadlinesPlace, neighborPeriodsPlace, neighborHeardPlace, neighborAddedPlace, neighborBeaconsPlace, neighborBytesPlace, waitingPlace, sendersPlace, samplesPlace}
 use Rattle.cells.specs.Keys.{keysAt, cutAt}
-use Rattle.neighbor_image.specs.Neighbors.{neighborsAt, waitingAt, waitingTableNumbers}
-use Rattle.neighbor_image.specs.Neighbors as tables
 use Rattle.routing.specs.declared.Routing.{Routing}
 use Rattle.neighbors.specs.declared.Neighbors.{Neighbors}
 use Rattle.world.specs.declared.World.{World}
@@ -34,8 +33,24 @@ routingIn xs = record {
   records = numberAt xs recordsPlace;
 }
 
+-- the neighbours and the waiting samples, addresses cut to 16 bits
 unfoldable pub neighborsIn : List ℕ → Neighbors
-neighborsIn xs = record { table = neighborsAt xs; «pending_lqas» = waitingAt xs }
+neighborsIn xs = record {
+  keys = keysAt xs neighborKeysPlace 64;
+  nwks = cutAt 65536 xs neighborNwksPlace 64;
+  links = keysAt xs neighborLinksPlace 64;
+  counts = keysAt xs neighborCountsPlace 64;
+  deadlines = keysAt xs neighborDeadlinesPlace 64;
+  periods = keysAt xs neighborPeriodsPlace 64;
+  heard = keysAt xs neighborHeardPlace 64;
+  added = keysAt xs neighborAddedPlace 64;
+  beacons = keysAt xs neighborBeaconsPlace 64;
+  bytes = keysAt xs neighborBytesPlace 64;
+  count = numberAt xs neighborsPlace;
+  senders = cutAt 65536 xs sendersPlace 64;
+  samples = keysAt xs samplesPlace 64;
+  waiting = numberAt xs waitingPlace;
+}
 
 -- the world, read place by place
 unfoldable pub worldIn : List ℕ → World
@@ -62,10 +77,23 @@ recordsNumbers r = r .records ∷ r .«record_keys» ++ r .«record_lengths»
 unfoldable pub routingNumbers : Routing → List ℕ
 routingNumbers r = headNumbers r ++ (routesNumbers r ++ (discoveriesNumbers r ++ recordsNumbers r))
 
-unfoldable pub neighborsNumbers : Neighbors → List ℕ
-neighborsNumbers s = tables.neighborsNumbers (s .table) ++ waitingTableNumbers (s .«pending_lqas»)
+-- the neighbours' count and columns in three parts, and those of the waiting samples
+unfoldable pub namesNumbers : Neighbors → List ℕ
+namesNumbers s = s .count ∷ s .keys ++ s .nwks
 
--- a whole world, from place 0 on: 2,666 numbers, after which the relay store stands
+unfoldable pub linksNumbers : Neighbors → List ℕ
+linksNumbers s = s .links ++ (s .counts ++ (s .deadlines ++ s .periods))
+
+unfoldable pub heardNumbers : Neighbors → List ℕ
+heardNumbers s = s .heard ++ (s .added ++ (s .beacons ++ s .bytes))
+
+unfoldable pub waitingNumbers : Neighbors → List ℕ
+waitingNumbers s = s .waiting ∷ s .senders ++ s .samples
+
+unfoldable pub neighborsNumbers : Neighbors → List ℕ
+neighborsNumbers s = namesNumbers s ++ (linksNumbers s ++ (heardNumbers s ++ waitingNumbers s))
+
+-- a whole world, from place 0 on: 1,194 numbers, after which the relay store stands
 unfoldable pub worldNumbers : World → List ℕ
 worldNumbers w = routingNumbers (w .routing) ++ neighborsNumbers (w .neighbors)
 

@@ -1,5 +1,6 @@
 // The world as an image of numbers: read, judged, and written.
 mod good;
+mod known;
 pub mod store;
 mod tables;
 
@@ -59,11 +60,35 @@ fn routing_in(image: &[u64]) -> Routing
 fn neighbors_in(image: &[u64]) -> Neighbors
     ensures { λ r. ⌜ r ≡ neighborsIn (now (image .entry)) ⌝ }
 {
-    let table = neighbor_image::neighbors::read_neighbors(image);
-    let pending_lqas = neighbor_image::waiting::read_waiting(image);
+    let keys = cells::keys_64(image, cells::NEIGHBOR_KEYS);
+    let nwks = cells::column16_64(image, cells::NEIGHBOR_NWKS);
+    let links = cells::keys_64(image, cells::NEIGHBOR_LINKS);
+    let counts = cells::keys_64(image, cells::NEIGHBOR_COUNTS);
+    let deadlines = cells::keys_64(image, cells::NEIGHBOR_DEADLINES);
+    let periods = cells::keys_64(image, cells::NEIGHBOR_PERIODS);
+    let heard = cells::keys_64(image, cells::NEIGHBOR_HEARD);
+    let added = cells::keys_64(image, cells::NEIGHBOR_ADDED);
+    let beacons = cells::keys_64(image, cells::NEIGHBOR_BEACONS);
+    let bytes = cells::keys_64(image, cells::NEIGHBOR_BYTES);
+    let count = numbers::at(image, cells::NEIGHBORS) as usize;
+    let senders = cells::column16_64(image, cells::SENDERS);
+    let samples = cells::keys_64(image, cells::SAMPLES);
+    let waiting = numbers::at(image, cells::WAITING) as usize;
     Neighbors {
-        table,
-        pending_lqas,
+        keys,
+        nwks,
+        links,
+        counts,
+        deadlines,
+        periods,
+        heard,
+        added,
+        beacons,
+        bytes,
+        count,
+        senders,
+        samples,
+        waiting,
     }
 }
 
@@ -99,10 +124,10 @@ fn write_routing(image: &mut [u64], routing: Routing)
 fn write_neighbors(image: &mut [u64], neighbors: Neighbors)
     ensures { λ _. ⌜ now (image .exit) ≡ sets (now (image .entry)) neighborsPlace (neighborsNumbers neighbors) ⌝ }
 {
-    let table = neighbors.table;
-    let pending = neighbors.pending_lqas;
-    neighbor_image::neighbors::write_neighbors(image, table);
-    neighbor_image::waiting::write_waiting(image, pending);
+    known::write_names(image, neighbors);
+    known::write_links(image, neighbors);
+    known::write_heard(image, neighbors);
+    known::write_waiting(image, neighbors);
 }
 
 // The world put into an image; what would stand past the image's end is left out.

@@ -1,2 +1,2 @@
-pub mod Room
-pub mod Kept
+pub mod Rows
+pub mod Sampled

@@ -1,1 +1,1 @@
-pub mod Samples
+pub mod Rules

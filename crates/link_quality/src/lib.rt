@@ -1,87 +1,85 @@
-// Samples of link quality: to the neighbour that sent, or to wait where the sender is none yet.
-// A call on a state that is not well formed is refused; its core form asks for a well-formed one and tests nothing.
-use neighbor_changes::Change;
-use neighbor_queries::Filter;
-use neighbors::Answer;
-use neighbors::Neighbors;
-use neighbors::Outcome;
+// Samples of link quality, in columns that are lent: to the neighbour that sent, or to wait where the sender is none yet.
+// Of the neighbours' columns only network addresses and link words are lent.
+use ring_buffer::RingBuffer;
 use types::Nwk;
-use types::Refusal;
 use waiting_table::WaitingEntry;
-use waiting_table::WaitingTable;
+ghost use mathlib.Core.List.{[], _∷_};
 ghost use mathlib.Core.Path.{_≡_};
-ghost use Rattle.neighbors.specs.State.{WellFormed};
-ghost use Rattle.waiting_table.specs.Table as waiting;
-ghost use Rattle.link_quality.specs.Samples.{roomFor, waitingAfter, withWaiting, recordLqaCore, recordLqa};
+ghost use Prim.Native.Nat.{_≤_};
+ghost use Rattle.columns.specs.Columns.{Long};
+ghost use Rattle.neighbor_columns.specs.Codec.{linkOf, CleanLink};
+ghost use Rattle.neighbor_columns.specs.Lent.{withNwks, withLinks, withCount, Asked, Changed};
+ghost use Rattle.waiting_columns.specs.Table as waits;
+ghost use Rattle.link_quality.specs.Rules.{roomFor, waitingAfter, sampledLink, recordSample, recordWaiting};
 
-// The waiting table with room for a sender: where there is none, the lowest address goes.
-fn make_room(t: WaitingTable, nwk: Nwk) -> WaitingTable
-    requires { ⌜ waiting.WellFormed t ⌝ }
-    ensures { λ r. ⌜ r ≡ waiting.tableOf (roomFor nwk (waiting.rowsOf t)) ⌝ }
+// A link word with one more sample. The ring is its lowest 40 bits; what stands above stays.
+fn sampled_link(word: u64, lqi: u8) -> u64
+    ensures { λ r. ⌜ (linkOf r ≡ sampledLink lqi (linkOf word)) × (CleanLink word → CleanLink r) ⌝ }
 {
-    if waiting_table::has_room(t, nwk) {
-        t
+    let held = RingBuffer::of_word(word);
+    let lqas = held.push(lqi);
+    lqas.word() + word / 1099511627776 * 1099511627776
+}
+
+// The waiting samples with room for a sender: where there is none, the lowest address goes. How many senders there are after.
+fn make_room(senders: &mut [u16], samples: &mut [u64], waiting: usize, nwk: Nwk) -> usize
+    requires { ⌜ waits.Formed64 (waits.inColumns (now senders) (now samples) waiting) ⌝ }
+    ensures { λ r. ⌜
+        waits.Keeps (waits.inColumns (now (senders .exit)) (now (samples .exit)) r)
+        (roomFor nwk (waits.rowsOf (waits.inColumns (now (senders .entry)) (now (samples .entry)) waiting)))
+        ⌝ }
+{
+    if waiting_columns::has_room(senders, samples, waiting, nwk) {
+        waiting
     } else {
-        waiting_table::pop_first(t)
+        waiting_columns::pop_first(senders, samples, waiting)
     }
 }
 
-// A sample more of a sender that is no neighbour yet.
-fn wait(t: WaitingTable, nwk: Nwk, lqi: u8) -> WaitingTable
-    requires { ⌜ waiting.WellFormed t ⌝ }
-    ensures { λ r. ⌜ r ≡ waiting.tableOf (waitingAfter nwk lqi (waiting.rowsOf t)) ⌝ }
+// A sample more of a sender that is no neighbour yet. How many senders wait after.
+fn wait(senders: &mut [u16], samples: &mut [u64], waiting: usize, nwk: Nwk, lqi: u8) -> usize
+    requires { ⌜ waits.WellFormed (waits.inColumns (now senders) (now samples) waiting) ⌝ }
+    ensures { λ r. ⌜
+        waits.Holds (waits.inColumns (now (senders .exit)) (now (samples .exit)) r)
+        (waitingAfter nwk lqi (waits.rowsOf (waits.inColumns (now (senders .entry)) (now (samples .entry)) waiting)))
+        ⌝ }
 {
-    let roomy = make_room(t, nwk);
-    let found = waiting_table::find(roomy, nwk);
+    let n = make_room(senders, samples, waiting, nwk);
+    let found = waiting_columns::find(senders, samples, n, nwk);
     let held = found.entry.lqas;
     let lqas = held.push(lqi);
     let e = WaitingEntry {
         network_address: nwk,
         lqas,
     };
-    waiting_table::put(roomy, e)
+    let place = waiting_columns::place_of(senders, samples, n, nwk);
+    waiting_columns::put_at(senders, samples, n, place, e)
 }
 
-// The call done, with other waiting samples.
-fn with_waiting(state: Neighbors, waiting: WaitingTable) -> Outcome
-    ensures { λ r. ⌜ r ≡ withWaiting state waiting ⌝ }
+// A frame was heard from a transmitter, at a quality. Answers how many senders wait after.
+pub fn record_lqa(
+    nwks: &[u16],
+    links: &mut [u64],
+    count: usize,
+    senders: &mut [u16],
+    samples: &mut [u64],
+    waiting: usize,
+    sender: Nwk,
+    lqi: u8,
+) -> usize
+    requires { ⌜
+        Long 64 (now nwks ∷ now links ∷ []) × (count ≤ 64)
+        × waits.WellFormed (waits.inColumns (now senders) (now samples) waiting)
+        ⌝ }
+    ensures { λ r. ⌜
+        Changed (λ t. withNwks (now (nwks .entry)) (withLinks (now (links .entry)) (withCount count t))) (λ t. withNwks (now (nwks .entry)) (withLinks (now (links .exit)) (withCount count t))) (recordSample sender lqi)
+        × Asked (λ t. withNwks (now (nwks .entry)) (withCount count t)) (λ xs. waits.Holds (waits.inColumns (now (senders .exit)) (now (samples .exit)) r) (recordWaiting sender lqi xs (waits.rowsOf (waits.inColumns (now (senders .entry)) (now (samples .entry)) waiting))))
+        ⌝ }
 {
-    let table = state.table;
-    Outcome {
-        answer: Answer::Done,
-        state: Neighbors {
-            table,
-            pending_lqas: waiting,
-        },
+    let i = columns::first16(nwks, count, sender.0);
+    if i < count {
+        links[i] = sampled_link(links[i], lqi);
+        return waiting;
     }
-}
-
-// A frame was heard from a transmitter, at a quality.
-pub fn record_lqa(state: Neighbors, sender: Nwk, lqi: u8) -> Outcome
-    ensures { λ r. ⌜ r ≡ recordLqa state sender lqi ⌝ }
-{
-    if state.well_formed() {
-        record_lqa_core(state, sender, lqi)
-    } else {
-        Outcome::refused(state, Refusal::StateIllFormed)
-    }
-}
-
-// `record_lqa` on a state that is well formed.
-pub fn record_lqa_core(state: Neighbors, sender: Nwk, lqi: u8) -> Outcome
-    requires { ⌜ WellFormed state ⌝ }
-    ensures { λ r. ⌜ r ≡ recordLqaCore state sender lqi ⌝ }
-{
-    let table = state.table;
-    let pending = state.pending_lqas;
-    let found = neighbor_queries::first_fitting(table, Filter::Address(sender));
-    if found.found {
-        state.with_table(neighbor_changes::change_first(
-            table,
-            Filter::Address(sender),
-            Change::Sample(lqi),
-        ))
-    } else {
-        with_waiting(state, wait(pending, sender, lqi))
-    }
+    wait(senders, samples, waiting, sender, lqi)
 }

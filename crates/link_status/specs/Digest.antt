@@ -8,7 +8,7 @@ use lib.Dec.{eqb, leb, ltb}
 use Rattle.types.specs.declared.Nwk.{Nwk}
 use Rattle.types.specs.declared.Eui64.{Eui64}
 use Rattle.types.specs.declared.Refusal.{Refusal}
-use Rattle.types.specs.declared.Refusal.the-variants.{StateIllFormed, ListTooLong, LinkCostTooHigh, TimePastEnd, NeighborTableFull}
+use Rattle.types.specs.declared.Refusal.the-variants.{ListTooLong, LinkCostTooHigh, TimePastEnd, NeighborTableFull}
 use Rattle.types.specs.declared.Sum.{Sum}
 use Rattle.types.specs.declared.Sum.the-variants.{At, Past}
 use Rattle.types.specs.Clock.{timeSum}
@@ -22,16 +22,12 @@ use Rattle.neighbor_table.specs.declared.Relationship.the-variants.{Sibling}
 use Rattle.neighbor_table.specs.declared.NeighborEntry.{NeighborEntry}
 use Rattle.neighbor_table.specs.declared.NeighborLookup.{NeighborLookup}
 use Rattle.neighbor_table.specs.Entry.{neighborKey, isEndDevice}
-use Rattle.neighbor_table.specs.Table as neighbours
+use Rattle.neighbor_table.specs.Lookup as neighbor
 use Rattle.waiting_table.specs.declared.WaitingEntry.{WaitingEntry}
 use Rattle.waiting_table.specs.Entry.{waitingKey}
-use Rattle.waiting_table.specs.Table as waiting
-use Rattle.neighbors.specs.declared.Neighbors.{Neighbors}
-use Rattle.neighbors.specs.declared.NwkAnswer.{NwkAnswer}
-use Rattle.neighbors.specs.declared.NwkAnswer.the-variants.{Is, Nothing}
-use Rattle.neighbors.specs.State.{wellFormed, rows, waits, stateOf}
-use Rattle.children.specs.declared.NwkOutcome.{NwkOutcome}
-use Rattle.children.specs.Calls.{refusedTaken}
+use Rattle.waiting_table.specs.Lookup as waiting
+use Rattle.neighbor_queries.specs.declared.NwkAnswer.{NwkAnswer}
+use Rattle.neighbor_queries.specs.declared.NwkAnswer.the-variants.{Is, Nothing}
 use Rattle.link_status.specs.declared.LinkStatusCommand.{LinkStatusCommand}
 use Rattle.link_status.specs.declared.Tally.{Tally}
 use Rattle.link_status.specs.Statuses.{costsFit, isLiveAt, statusesOf, tallied}
@@ -141,32 +137,4 @@ abbrev pub onRows : {O : Type 0} → (Refusal → O) → (NwkAnswer → List Nei
 onRows refuse leave xs ws own name nwk lqi command now =
     cond (ltb 31 (command .count)) (refuse ListTooLong)
     (cond (not (every costsFit (statusesOf command))) (refuse LinkCostTooHigh)
-    (heardRows refuse leave xs ws own name nwk lqi command now (neighbours.looked (lookup neighborKey (name .0) xs))))
-
--- The same of a state by value.
-abbrev pub leftIn : NwkAnswer → List NeighborEntry → List WaitingEntry → NwkOutcome
-leftIn answer xs ws = record { answer = answer; state = stateOf xs ws }
-
-abbrev pub tallyOf : Neighbors → Nwk → LinkStatusCommand → NeighborEntry → Tally
-tallyOf s own command e = tallyBy (rows s) own command e
-
-abbrev pub digestedAs : Neighbors → Nwk → ℕ → NeighborEntry → Tally → NwkOutcome
-digestedAs s nwk now e x = digestedRows leftIn (rows s) (waits s) nwk now e x
-
-abbrev pub digested : Neighbors → Nwk → Nwk → LinkStatusCommand → ℕ → NeighborEntry → NwkOutcome
-digested s own nwk command now e = digestedAs s nwk now e (tallyOf s own command e)
-
-abbrev pub admittedBy : Neighbors → Nwk → Eui64 → Nwk → ℕ → LinkStatusCommand → ℕ → Sum → NwkOutcome
-admittedBy s own name nwk lqi command now sum = admittedRows (refusedTaken s) leftIn (rows s) (waits s) own name nwk lqi command now sum
-
-abbrev pub admitted : Neighbors → Nwk → Eui64 → Nwk → ℕ → LinkStatusCommand → ℕ → NwkOutcome
-admitted s own name nwk lqi command now = admittedBy s own name nwk lqi command now (timeSum now forever)
-
-abbrev pub heardIn : Neighbors → Nwk → Eui64 → Nwk → ℕ → LinkStatusCommand → ℕ → NeighborLookup → NwkOutcome
-heardIn s own name nwk lqi command now l = heardRows (refusedTaken s) leftIn (rows s) (waits s) own name nwk lqi command now l
-
-abbrev pub onLinkStatusCore : Neighbors → Nwk → Eui64 → Nwk → ℕ → LinkStatusCommand → ℕ → NwkOutcome
-onLinkStatusCore s own name nwk lqi command now = onRows (refusedTaken s) leftIn (rows s) (waits s) own name nwk lqi command now
-
-unfoldable pub onLinkStatus : Neighbors → Nwk → Eui64 → Nwk → ℕ → LinkStatusCommand → ℕ → NwkOutcome
-onLinkStatus s own name nwk lqi command now = cond (wellFormed s) (onLinkStatusCore s own name nwk lqi command now) (refusedTaken s StateIllFormed)
+    (heardRows refuse leave xs ws own name nwk lqi command now (neighbor.looked (lookup neighborKey (name .0) xs))))

@@ -1,32 +1,17 @@
 // Link status commands: what a neighbour says of its links, and what that makes of our entry for it.
-// A call on a state that is not well formed is refused; its core form asks for a well-formed one and tests nothing of it.
-use children::NwkOutcome;
 use neighbor_queries::LinkStatus;
 use neighbor_table::NeighborEntry;
-use neighbor_table::NeighborTable;
 use neighbor_table::NwkDeviceType;
 use neighbor_table::Relationship;
-use neighbors::Neighbors;
-use neighbors::NwkAnswer;
 use ring_buffer::RingBuffer;
 use types::Eui64;
 use types::Nwk;
-use types::Refusal;
-use types::Sum;
-use waiting_table::WaitingTable;
 ghost use mathlib.Core.Bool.{cond, true};
-ghost use mathlib.Core.List.{map};
 ghost use mathlib.Core.Path.{_≡_};
 ghost use Prim.Native.Nat.{_+_, _-_, _≤_, _<_, min};
-ghost use lib.ListN.{take, length};
 ghost use Rattle.flat_map.specs.Table.{every};
-ghost use Rattle.standard.specs.Ordered.{countWith};
-ghost use Rattle.neighbor_table.specs.Entry.{neighborKey};
-ghost use Rattle.neighbors.specs.State.{WellFormed, rows};
-ghost use Rattle.waiting_table.specs.Table as waiting;
-ghost use Rattle.link_status.specs.Digest.{asRouter, begun, finished, newRouter, samplesOf, digested, admitted, onLinkStatusCore, onLinkStatus};
-ghost use Rattle.neighbor_table.specs.Table.{Formed64, rowsOf};
-ghost use Rattle.link_status.specs.Statuses.{costsFit, worth, counted, tallied, isLiveAt, liveNumber, among, statusesOf};
+ghost use Rattle.link_status.specs.Digest.{asRouter, begun, finished, newRouter};
+ghost use Rattle.link_status.specs.Statuses.{costsFit, worth, counted, statusesOf};
 
 // The statuses of one command; the count may pass the capacity.
 pub struct LinkStatusCommand {
@@ -110,69 +95,6 @@ pub fn count_one(own: Nwk, live: bool, status: LinkStatus, x: Tally) -> Tally
         diversity: add_where(heard & !live, x.diversity, by),
         cost: pick(address.0 == own.0, status.incoming_cost, x.cost),
     }
-}
-
-// A neighbour's address doubled, and one more where the link to it is live.
-fn live_number(e: NeighborEntry) -> u64
-    ensures { λ r. ⌜ r ≡ liveNumber e ⌝ }
-{
-    let address = e.network_address;
-    let doubled = address.0 as u64 * 2;
-    if 0 < e.outgoing_cost {
-        doubled + 1
-    } else {
-        doubled
-    }
-}
-
-// The numbers of all neighbours, so that the table is gone through once and not for each status.
-fn live_numbers(t: NeighborTable) -> [u64; 64]
-    requires { ⌜ Formed64 t ⌝ }
-    ensures { λ r. ⌜ take (t .count) r ≡ map liveNumber (rowsOf t) ⌝ }
-{
-    let n = t.count;
-    let mut numbers = [0u64; 64];
-    let mut i: usize = 0;
-    while i < n {
-        let e = t.entries[i];
-        numbers[i] = live_number(e);
-        i += 1;
-    }
-    numbers
-}
-
-// Whether a number is among the first n.
-fn is_among(numbers: &[u64], n: usize, x: u64) -> bool
-    requires { ⌜ n ≤ length (now numbers) ⌝ }
-    ensures { λ r. ⌜ r ≡ among x (take n (now (numbers .entry))) ⌝ }
-{
-    let mut found = false;
-    let mut i: usize = 0;
-    while i < n {
-        found |= numbers[i] == x;
-        i += 1;
-    }
-    found
-}
-
-// All statuses of a command, in their order; live links are judged by the table as it is before the call.
-fn add_up(t: NeighborTable, own: Nwk, command: LinkStatusCommand, start: Tally) -> Tally
-    requires { ⌜ Formed64 t × (command .count ≤ 31) × (every costsFit (statusesOf command) ≡ true) ⌝ }
-    ensures { λ r. ⌜ r ≡ tallied own (isLiveAt (rowsOf t)) (statusesOf command) start ⌝ }
-{
-    let n = command.count;
-    let known = t.count;
-    let numbers = live_numbers(t);
-    let mut x = start;
-    let mut i: usize = 0;
-    while i < n {
-        let status = command.statuses[i];
-        let address = status.address;
-        let live = is_among(&numbers, known, address.0 as u64 * 2 + 1);
-        x = count_one(own, live, status, x);
-        i += 1;
-    }
-    x
 }
 
 // The child timeout of a new neighbour, 0xFFFFFFFF seconds in milliseconds: it never ends.
@@ -264,125 +186,5 @@ pub fn new_router(name: Eui64, nwk: Nwk, at: u64, now: u64, lqas: RingBuffer) ->
         router_outbound_activity: 0,
         router_inbound_activity: 0,
         security_timer: 0,
-    }
-}
-
-// The samples that waited for a sender, with one more.
-fn samples(pending: WaitingTable, nwk: Nwk, lqi: u8) -> RingBuffer
-    requires { ⌜ waiting.Formed64 pending ⌝ }
-    ensures { λ r. ⌜ r ≡ samplesOf nwk lqi (waiting.rowsOf pending) ⌝ }
-{
-    let found = waiting_table::find(pending, nwk);
-    let held = found.entry.lqas;
-    held.push(lqi)
-}
-
-// The command digested into an entry that has its place; the waiting samples of the sender go.
-fn digest(
-    state: Neighbors,
-    e: NeighborEntry,
-    own: Nwk,
-    nwk: Nwk,
-    command: LinkStatusCommand,
-    now: u64,
-) -> NwkOutcome
-    requires { ⌜ WellFormed state × (countWith neighborKey (neighborKey e) (rows state) ≤ 64) × (command .count ≤ 31) × (every costsFit (statusesOf command) ≡ true) ⌝ }
-    ensures { λ r. ⌜ r ≡ digested state own nwk command now e ⌝ }
-{
-    let table = state.table;
-    let pending = state.pending_lqas;
-    let x = add_up(table, own, command, begin(e, command.is_first_frame));
-    let next = Neighbors {
-        table: neighbor_table::put(table, finish(e, x, now)),
-        pending_lqas: waiting_table::remove(pending, nwk),
-    };
-    let address = e.network_address;
-    if (0 < e.outgoing_cost) & (x.cost == 0) {
-        NwkOutcome {
-            answer: NwkAnswer::Is(address),
-            state: next,
-        }
-    } else {
-        NwkOutcome {
-            answer: NwkAnswer::Nothing,
-            state: next,
-        }
-    }
-}
-
-// A command from a device that is no neighbour yet.
-fn admit(
-    state: Neighbors,
-    own: Nwk,
-    name: Eui64,
-    nwk: Nwk,
-    lqi: u8,
-    command: LinkStatusCommand,
-    now: u64,
-) -> NwkOutcome
-    requires { ⌜ WellFormed state × (command .count ≤ 31) × (every costsFit (statusesOf command) ≡ true) ⌝ }
-    ensures { λ r. ⌜ r ≡ admitted state own name nwk lqi command now ⌝ }
-{
-    let sum = types::time_sum(now, FOREVER);
-    match sum {
-        Sum::At(at) => {
-            let table = state.table;
-            let pending = state.pending_lqas;
-            if neighbor_table::has_room(table, name) {
-                let e = new_router(name, nwk, at, now, samples(pending, nwk, lqi));
-                digest(state, e, own, nwk, command, now)
-            } else {
-                children::refused_taken(state, Refusal::NeighborTableFull)
-            }
-        }
-        Sum::Past => children::refused_taken(state, Refusal::TimePastEnd),
-    }
-}
-
-// A link status command (05-3474, 3.6.4.4.2). Answers the sender's stored address where its link is lost.
-pub fn on_link_status(
-    state: Neighbors,
-    own: Nwk,
-    name: Eui64,
-    nwk: Nwk,
-    lqi: u8,
-    command: LinkStatusCommand,
-    now: u64,
-) -> NwkOutcome
-    ensures { λ r. ⌜ r ≡ onLinkStatus state own name nwk lqi command now ⌝ }
-{
-    if state.well_formed() {
-        on_link_status_core(state, own, name, nwk, lqi, command, now)
-    } else {
-        children::refused_taken(state, Refusal::StateIllFormed)
-    }
-}
-
-// `on_link_status` on a state that is well formed.
-pub fn on_link_status_core(
-    state: Neighbors,
-    own: Nwk,
-    name: Eui64,
-    nwk: Nwk,
-    lqi: u8,
-    command: LinkStatusCommand,
-    now: u64,
-) -> NwkOutcome
-    requires { ⌜ WellFormed state ⌝ }
-    ensures { λ r. ⌜ r ≡ onLinkStatusCore state own name nwk lqi command now ⌝ }
-{
-    if 31 < command.count {
-        return children::refused_taken(state, Refusal::ListTooLong);
-    }
-    if !all_costs_fit(command) {
-        return children::refused_taken(state, Refusal::LinkCostTooHigh);
-    }
-    let table = state.table;
-    let found = neighbor_table::find(table, name);
-    let e = found.entry;
-    if found.found {
-        digest(state, e, own, nwk, command, now)
-    } else {
-        admit(state, own, name, nwk, lqi, command, now)
     }
 }

@@ -3,7 +3,7 @@
 use Prim.Native.Nat.{ℕ, _+_, _*_, _<_, _≤_}
 use mathlib.Core.Bool.{Bool, true, false, cond, not, _&&_, true≢false}
 use mathlib.Core.List.{List, map}
-use mathlib.Core.Option.{Option, none, some}
+use mathlib.Core.Option.{Option}
 use mathlib.Core.Path.{_≡_, refl, sym, ap, _∙_, subst}
 use borrow.Author.Tests.{leb-true, le-leb, lt-ltb, le-ltb}
 use lib.Dec.{eqb, leb, ltb}
@@ -24,7 +24,7 @@ use Rattle.flat_map.proofs.Every.{every-remove}
 use Rattle.columns.proofs.Rows as rows
 use Rattle.neighbor_table.specs.declared.NeighborEntry.{NeighborEntry}
 use Rattle.neighbor_table.specs.Entry.{neighborKey, isSound}
-use Rattle.neighbor_table.specs.Table as by-value
+use Rattle.neighbor_table.specs.Lookup.{looked}
 use Rattle.neighbor_columns.specs.declared.LinkPart.{LinkPart}
 use Rattle.neighbor_columns.specs.declared.CountsPart.{CountsPart}
 use Rattle.neighbor_columns.specs.Codec.{linkOf, linkWord, countsOf, countsWord, neighborFrom, neighborIn, LinkRange, CountsRange}
@@ -36,12 +36,11 @@ use Rattle.neighbor_columns.proofs.Stored.{stored-at}
 use Rattle.waiting_table.specs.declared.WaitingEntry.{WaitingEntry}
 use Rattle.waiting_table.specs.Entry as waits-entry
 use Rattle.waiting_table.specs.Entry.{waitingKey}
-use Rattle.waiting_table.specs.Table as waiting-by-value
 use Rattle.waiting_columns.specs.Table as waiting
 use Rattle.waiting_columns.proofs.Rows as waiting-rows
-use Rattle.neighbors.specs.declared.NwkAnswer.{NwkAnswer}
-use Rattle.neighbors.specs.declared.NwkAnswer.the-variants.{Is, Nothing, Refused}
-use Rattle.neighbors.proofs.Checked.{picks-first, picks-second}
+use Rattle.neighbor_queries.specs.declared.NwkAnswer.{NwkAnswer}
+use Rattle.neighbor_queries.specs.declared.NwkAnswer.the-variants.{Is, Nothing, Refused}
+use Rattle.neighbor_queries.proofs.Checked.{picks-first, picks-second}
 use Rattle.link_status.specs.declared.LinkStatusCommand.{LinkStatusCommand}
 use Rattle.link_status.specs.declared.Tally.{Tally}
 use Rattle.link_status.specs.Statuses.{among, costsFit, isLiveAt, liveNumber, statusesOf, tallied}
@@ -106,11 +105,6 @@ module _ (t : NeighborTable) (w : WellFormed t) (i : ℕ) (h : i < t .count) (no
   pub tally-stored : LinkRange l → CountsRange q
       → Holds (lentStatus (set (t .links) i (linkWord l)) (set (t .counts) i (countsWord q)) (set (t .heard) i now) (t .count) t) (put neighborKey (finished now x row) (rowsOf t))
   tally-stored r s = put-holds t _ (finished now x row) w (finished-sound now x row small (sound-row t (w .formed) (w .sound) i h)) (keeps r s)
-
--- a look-up of waiting samples reads the same of columns and of a table by value
-pub waiting-looked : (o : Option WaitingEntry) → waiting.looked o ≡ waiting-by-value.looked o
-waiting-looked none = refl
-waiting-looked (some e) = refl
 
 -- the words as they were made, and columns that hold the rows left
 module _ (t : NeighborTable) (w : WellFormed t) (i : ℕ) (h : i < t .count) (now : ℕ) (x : Tally) (small : x .cost ≤ 7) where
@@ -186,7 +180,7 @@ module _ (keys : List ℕ) (count : ℕ) (name : Eui64) (command : LinkStatusCom
   too-high h e t f ws own nwk lqi = picks-second _ _ (le-ltb 31 _ h) ∙ picks-first _ _ (ap not e)
 
   fair-heard : Fair command → (xs : List NeighborEntry) (ws : List WaitingEntry) (own nwk : Nwk) (lqi : ℕ)
-      → onLinkStatusRows xs ws own name nwk lqi command now ≡ heardRows (refusedRows xs ws) leftRows xs ws own name nwk lqi command now (by-value.looked (lookup neighborKey (name .0) xs))
+      → onLinkStatusRows xs ws own name nwk lqi command now ≡ heardRows (refusedRows xs ws) leftRows xs ws own name nwk lqi command now (looked (lookup neighborKey (name .0) xs))
   fair-heard g xs ws own nwk lqi = picks-second _ _ (le-ltb 31 _ (g .short)) ∙ picks-second _ _ (ap not (g .cheap))
 
   module _ (t : NeighborTable) (f : Formed64 (lentKeys keys count t)) (ws : List WaitingEntry) (own nwk : Nwk) (lqi : ℕ) (g : Fair command) (i : ℕ) where
@@ -203,13 +197,13 @@ module _ (keys : List ℕ) (count : ℕ) (name : Eui64) (command : LinkStatusCom
         → onLinkStatusRows xs ws own name nwk lqi command now ≡ leftRows (lost met (tallyBy xs own command met)) (put neighborKey (finished now (tallyBy xs own command met) met) xs) (remove waitingKey (nwk .0) ws)
     known-rule p =
         fair-heard g xs ws own nwk lqi
-        ∙ ap (λ (o : Option NeighborEntry). heardRows (refusedRows xs ws) leftRows xs ws own name nwk lqi command now (by-value.looked o)) (found-row (lentKeys keys count t) f (name .0) i p)
+        ∙ ap (λ (o : Option NeighborEntry). heardRows (refusedRows xs ws) leftRows xs ws own name nwk lqi command now (looked o)) (found-row (lentKeys keys count t) f (name .0) i p)
 
     missed-rule : Missing i ≡ placeOf (take count keys) (name .0)
         → onLinkStatusRows xs ws own name nwk lqi command now ≡ admittedRows (refusedRows xs ws) leftRows xs ws own name nwk lqi command now (timeSum now forever)
     missed-rule p =
         fair-heard g xs ws own nwk lqi
-        ∙ ap (λ (o : Option NeighborEntry). heardRows (refusedRows xs ws) leftRows xs ws own name nwk lqi command now (by-value.looked o)) (missing-row (lentKeys keys count t) f (name .0) i p)
+        ∙ ap (λ (o : Option NeighborEntry). heardRows (refusedRows xs ws) leftRows xs ws own name nwk lqi command now (looked o)) (missing-row (lentKeys keys count t) f (name .0) i p)
 
     past-rule : Missing i ≡ placeOf (take count keys) (name .0) → Past ≡ timeSum now forever → onLinkStatusRows xs ws own name nwk lqi command now ≡ refusedRows xs ws TimePastEnd
     past-rule p q = missed-rule p ∙ ap (admittedRows (refusedRows xs ws) leftRows xs ws own name nwk lqi command now) (sym q)

@@ -23,8 +23,8 @@ use Rattle.neighbor_columns.specs.Lent.{withNwks, withLinks, withCounts, withHe
 use Rattle.neighbor_columns.specs.Table.{NeighborTable, rowsOf, rowAt, WellFormed, Holds}
 use Rattle.waiting_table.specs.declared.WaitingEntry.{WaitingEntry}
 use Rattle.waiting_columns.specs.Table as waiting
-use Rattle.neighbors.specs.declared.NwkAnswer.{NwkAnswer}
-use Rattle.neighbors.specs.declared.NwkAnswer.the-variants.{Refused}
+use Rattle.neighbor_queries.specs.declared.NwkAnswer.{NwkAnswer}
+use Rattle.neighbor_queries.specs.declared.NwkAnswer.the-variants.{Refused}
 use Rattle.link_status.specs.declared.LinkStatusCommand.{LinkStatusCommand}
 use Rattle.link_status.specs.declared.Tally.{Tally}
 use Rattle.link_status.specs.Statuses.{costsFit, statusesOf}

@@ -3,10 +3,10 @@ use Prim.Native.Nat.{ℕ}
 use mathlib.Core.List.{List}
 use mathlib.Core.Path.{_≡_, refl}
 use Rattle.numbers.specs.Said.{empty, pushed, pushedAll, spoken}
-use Rattle.neighbors.specs.declared.Answer.{Answer}
-use Rattle.neighbors.specs.declared.Answer.the-variants as answers
-use Rattle.neighbors.specs.declared.Presence.{Presence}
-use Rattle.neighbors.specs.declared.Presence.the-variants as presences
+use Rattle.neighbor_queries.specs.declared.Answer.{Answer}
+use Rattle.neighbor_queries.specs.declared.Answer.the-variants as answers
+use Rattle.neighbor_queries.specs.declared.Presence.{Presence}
+use Rattle.neighbor_queries.specs.declared.Presence.the-variants as presences
 use Rattle.neighbor_answers.specs.Answers.{ofEntry, foundBy, saidOf, toldBy}
 
 pub found-said : (p : Presence) (xs : List ℕ) → foundBy p (pushedAll (pushed empty 1) xs) ≡ spoken (ofEntry p xs)

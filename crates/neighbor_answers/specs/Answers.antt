@@ -13,26 +13,26 @@ use Rattle.neighbor_queries.specs.declared.ChildList.{ChildList}
 use Rattle.neighbor_queries.specs.declared.Eui64List.{Eui64List}
 use Rattle.neighbor_queries.specs.declared.NwkList.{NwkList}
 use Rattle.neighbor_queries.specs.declared.LinkStatusList.{LinkStatusList}
-use Rattle.neighbors.specs.declared.Truth.{Truth}
-use Rattle.neighbors.specs.declared.Truth.the-variants as truths
-use Rattle.neighbors.specs.declared.Count.{Count}
-use Rattle.neighbors.specs.declared.Count.the-variants as counts
-use Rattle.neighbors.specs.declared.Eui64Answer.{Eui64Answer}
-use Rattle.neighbors.specs.declared.Eui64Answer.the-variants as names
-use Rattle.neighbors.specs.declared.NwkAnswer.{NwkAnswer}
-use Rattle.neighbors.specs.declared.NwkAnswer.the-variants as addresses
-use Rattle.neighbors.specs.declared.NeighborLink.{NeighborLink}
-use Rattle.neighbors.specs.declared.LinkAnswer.{LinkAnswer}
-use Rattle.neighbors.specs.declared.LinkAnswer.the-variants as links
-use Rattle.neighbors.specs.declared.Capability.{Capability}
-use Rattle.neighbors.specs.declared.Capability.the-variants as capabilities
-use Rattle.neighbors.specs.declared.MomentAnswer.{MomentAnswer}
-use Rattle.neighbors.specs.declared.MomentAnswer.the-variants as times
-use Rattle.neighbors.specs.declared.Answer.{Answer}
-use Rattle.neighbors.specs.declared.Answer.the-variants as answers
-use Rattle.neighbors.specs.declared.EntryAnswer.{EntryAnswer}
-use Rattle.neighbors.specs.declared.Presence.{Presence}
-use Rattle.neighbors.specs.declared.Presence.the-variants as presences
+use Rattle.neighbor_queries.specs.declared.Truth.{Truth}
+use Rattle.neighbor_queries.specs.declared.Truth.the-variants as truths
+use Rattle.neighbor_queries.specs.declared.Count.{Count}
+use Rattle.neighbor_queries.specs.declared.Count.the-variants as counts
+use Rattle.neighbor_queries.specs.declared.Eui64Answer.{Eui64Answer}
+use Rattle.neighbor_queries.specs.declared.Eui64Answer.the-variants as names
+use Rattle.neighbor_queries.specs.declared.NwkAnswer.{NwkAnswer}
+use Rattle.neighbor_queries.specs.declared.NwkAnswer.the-variants as addresses
+use Rattle.neighbor_queries.specs.declared.NeighborLink.{NeighborLink}
+use Rattle.neighbor_queries.specs.declared.LinkAnswer.{LinkAnswer}
+use Rattle.neighbor_queries.specs.declared.LinkAnswer.the-variants as links
+use Rattle.neighbor_queries.specs.declared.Capability.{Capability}
+use Rattle.neighbor_queries.specs.declared.Capability.the-variants as capabilities
+use Rattle.neighbor_queries.specs.declared.MomentAnswer.{MomentAnswer}
+use Rattle.neighbor_queries.specs.declared.MomentAnswer.the-variants as times
+use Rattle.neighbor_queries.specs.declared.Answer.{Answer}
+use Rattle.neighbor_queries.specs.declared.Answer.the-variants as answers
+use Rattle.neighbor_queries.specs.declared.EntryAnswer.{EntryAnswer}
+use Rattle.neighbor_queries.specs.declared.Presence.{Presence}
+use Rattle.neighbor_queries.specs.declared.Presence.the-variants as presences
 use Rattle.neighbor_values.specs.Values.{neighborNumbers, childrenNumbers, eui64sNumbers, nwksNumbers, statusesNumbers}
 
 -- 0 for none

@@ -1,20 +1,20 @@
 // Every answer about neighbours as numbers: a refusal's number, or what was answered and its values.
+use neighbor_queries::Capability;
 use neighbor_queries::ChildList;
+use neighbor_queries::Count;
+use neighbor_queries::EntryAnswer;
+use neighbor_queries::Eui64Answer;
 use neighbor_queries::Eui64List;
+use neighbor_queries::LinkAnswer;
 use neighbor_queries::LinkStatusList;
+use neighbor_queries::MomentAnswer;
+use neighbor_queries::NeighborLink;
+use neighbor_queries::NwkAnswer;
 use neighbor_queries::NwkList;
+use neighbor_queries::Presence;
+use neighbor_queries::Truth;
 use neighbor_table::NwkDeviceType;
 use neighbor_table::Quality;
-use neighbors::Capability;
-use neighbors::Count;
-use neighbors::EntryAnswer;
-use neighbors::Eui64Answer;
-use neighbors::LinkAnswer;
-use neighbors::MomentAnswer;
-use neighbors::NeighborLink;
-use neighbors::NwkAnswer;
-use neighbors::Presence;
-use neighbors::Truth;
 use numbers::Answer;
 use numbers::Numbers;
 ghost use mathlib.Core.Path.{_≡_};
@@ -143,22 +143,22 @@ pub fn moment_answer(a: MomentAnswer) -> Answer
     }
 }
 
-pub fn done_answer(a: neighbors::Answer) -> Answer
+pub fn done_answer(a: neighbor_queries::Answer) -> Answer
     ensures { λ r. ⌜ r ≡ spoken (doneSaid a) ⌝ }
 {
     match a {
-        neighbors::Answer::Done => numbers::done(),
-        neighbors::Answer::Refused(why) => numbers::refused(why),
+        neighbor_queries::Answer::Done => numbers::done(),
+        neighbor_queries::Answer::Refused(why) => numbers::refused(why),
     }
 }
 
 // A call's values, where it was done.
-fn told(answer: neighbors::Answer, values: Numbers) -> Answer
+fn told(answer: neighbor_queries::Answer, values: Numbers) -> Answer
     ensures { λ r. ⌜ r ≡ toldBy answer values ⌝ }
 {
     match answer {
-        neighbors::Answer::Done => numbers::answered(values),
-        neighbors::Answer::Refused(why) => numbers::refused(why),
+        neighbor_queries::Answer::Done => numbers::answered(values),
+        neighbor_queries::Answer::Refused(why) => numbers::refused(why),
     }
 }
 
@@ -227,28 +227,28 @@ pub fn is_child_answer(a: EntryAnswer) -> Answer
 }
 
 // Children, where the call was done.
-pub fn children_answer(answer: neighbors::Answer, list: ChildList) -> Answer
+pub fn children_answer(answer: neighbor_queries::Answer, list: ChildList) -> Answer
     ensures { λ r. ⌜ r ≡ spoken (childrenSaid answer list) ⌝ }
 {
     let n = numbers::none();
     told(answer, neighbor_values::push_children(n, list))
 }
 
-pub fn eui64s_answer(answer: neighbors::Answer, list: Eui64List) -> Answer
+pub fn eui64s_answer(answer: neighbor_queries::Answer, list: Eui64List) -> Answer
     ensures { λ r. ⌜ r ≡ spoken (eui64sSaid answer list) ⌝ }
 {
     let n = numbers::none();
     told(answer, neighbor_values::push_eui64s(n, list))
 }
 
-pub fn nwks_answer(answer: neighbors::Answer, list: NwkList) -> Answer
+pub fn nwks_answer(answer: neighbor_queries::Answer, list: NwkList) -> Answer
     ensures { λ r. ⌜ r ≡ spoken (nwksSaid answer list) ⌝ }
 {
     let n = numbers::none();
     told(answer, neighbor_values::push_nwks(n, list))
 }
 
-pub fn statuses_answer(answer: neighbors::Answer, list: LinkStatusList) -> Answer
+pub fn statuses_answer(answer: neighbor_queries::Answer, list: LinkStatusList) -> Answer
     ensures { λ r. ⌜ r ≡ spoken (statusesSaid answer list) ⌝ }
 {
     let n = numbers::none();
@@ -256,7 +256,11 @@ pub fn statuses_answer(answer: neighbors::Answer, list: LinkStatusList) -> Answe
 }
 
 // Children to claim back and children that were removed, where the call was done.
-pub fn announced_answer(answer: neighbors::Answer, claimed: Eui64List, removed: ChildList) -> Answer
+pub fn announced_answer(
+    answer: neighbor_queries::Answer,
+    claimed: Eui64List,
+    removed: ChildList,
+) -> Answer
     ensures { λ r. ⌜ r ≡ spoken (announcedSaid answer claimed removed) ⌝ }
 {
     let n = numbers::none();

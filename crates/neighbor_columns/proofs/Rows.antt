@@ -39,7 +39,8 @@ use Rattle.neighbor_table.specs.declared.NeighborLookup.{NeighborLookup}
 use Rattle.neighbor_table.specs.Entry.{neighborKey, blankNeighbor, isSound}
 use Rattle.neighbor_columns.specs.Codec.{partSound}
 use Rattle.neighbor_columns.specs.Codec.{neighborFrom, neighborOf, neighborNumbers, CleanLink, Clean, InRange}
-use Rattle.neighbor_columns.specs.Table.{NeighborTable, inColumns, others, rowsOf, rowAt, InPlaces, tableOf, CleanLinks, cleanLink, Formed64, formed64, WellFormed, wellFormed, Fits, FitRows, Keeps, Holds, replaced, inserted, removed, looked}
+use Rattle.neighbor_columns.specs.Table.{NeighborTable, inColumns, others, rowsOf, rowAt, InPlaces, tableOf, CleanLinks, cleanLink, Formed64, formed64, WellFormed, wellFormed, Fits, FitRows, Keeps, Holds, replaced, inserted, removed}
+use Rattle.neighbor_table.specs.Lookup.{looked}
 use Rattle.neighbor_columns.proofs.Codec.{codec, zero-clean, read-in-range}
 
 -- the test of a link word, of all of them, and of a table

@@ -2,9 +2,8 @@
 -- Document 01, "Capacities and clock": "neighbours 64"; "Well formed". That a key is the entry's own field holds by construction.
 -- Assumes nothing.
 use Prim.Native.Nat.{ℕ, _+_, _-_, _/_, _%_, _<_}
-use mathlib.Core.Bool.{Bool, true, false, _&&_}
+use mathlib.Core.Bool.{Bool, true, _&&_}
 use mathlib.Core.List.{List, [], _∷_}
-use mathlib.Core.Option.{Option, none, some}
 use mathlib.Core.Path.{_≡_}
 use lib.Dec.{ltb}
 use lib.ListN.{length, getD, set}
@@ -13,7 +12,6 @@ use Rattle.flat_map.specs.Table.{Each, Fit, every}
 use Rattle.columns.specs.Columns.{Ordered, ordered}
 use Rattle.columns.specs.Table.{rowsIn, column}
 use Rattle.neighbor_table.specs.declared.NeighborEntry.{NeighborEntry}
-use Rattle.neighbor_table.specs.declared.NeighborLookup.{NeighborLookup}
 use Rattle.neighbor_table.specs.Entry.{neighborKey, blankNeighbor, isSound}
 use Rattle.neighbor_columns.specs.Codec.{partSound}
 use Rattle.neighbor_columns.specs.Codec.{linkOf, linkPart, countsPart, linkWord, countsWord, beaconWord, bytesWord, neighborIn, neighborOf, neighborNumbers, CleanLink, InRange}
@@ -146,8 +144,3 @@ abbrev pub removed : NeighborTable → ℕ → NeighborTable
 removed t i =
     inColumns (shiftOut i 0 (t .keys)) (shiftOut i 0 (t .nwks)) (shiftOut i 0 (t .links)) (shiftOut i 0 (t .counts)) (shiftOut i 0 (t .deadlines))
     (shiftOut i 0 (t .periods)) (shiftOut i 0 (t .heard)) (shiftOut i 0 (t .added)) (shiftOut i 0 (t .beacons)) (shiftOut i 0 (t .bytes)) (t .count - 1)
-
--- a look-up's answer
-abbrev pub looked : Option NeighborEntry → NeighborLookup
-looked none = record { found = false; entry = blankNeighbor }
-looked (some e) = record { found = true; entry = e }

@@ -23,7 +23,8 @@ ghost use Rattle.columns.specs.Columns.{Ordered};
 ghost use Rattle.neighbor_columns.specs.Kinds.{deviceTypeOf, relationshipOf};
 ghost use Rattle.neighbor_table.specs.Entry.{isRouter, isEndDevice, isChild, qualityOf, costOf, deviceTypeNumber, relationshipNumber, neighborKey, blankNeighbor};
 ghost use Rattle.neighbor_columns.specs.Codec.{LinkRange, CountsRange, InRange, linkOf, linkWord, countsOf, countsWord, lowHalf, highHalf, pairWord, linkPart, countsPart, neighborNumbers, numbersIn, neighborIn};
-ghost use Rattle.neighbor_columns.specs.Table.{inColumns, rowAt, rowsOf, InPlaces, cleanLink, CleanLinks, SoundLink, SoundLinks, Formed64, formed64, wellFormed, looked};
+ghost use Rattle.neighbor_columns.specs.Table.{inColumns, rowAt, rowsOf, InPlaces, cleanLink, CleanLinks, SoundLink, SoundLinks, Formed64, formed64, wellFormed};
+ghost use Rattle.neighbor_table.specs.Lookup.{looked};
 ghost use Rattle.neighbor_columns.specs.Lent.{lentKeys, Asked};
 
 // What stands in the link word of a neighbour.

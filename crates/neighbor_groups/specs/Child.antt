@@ -6,13 +6,13 @@ use Rattle.numbers.specs.Read.{numberAt, byteAt, shortAt, nwkAt, eui64At}
 use Rattle.neighbors.specs.declared.Neighbors.{Neighbors}
 use Rattle.neighbor_loads.specs.declared.NeighborsReply.{NeighborsReply}
 use Rattle.neighbor_loads.specs.Loads.{replied}
-use Rattle.children.specs.declared.TruthOutcome.{TruthOutcome}
-use Rattle.children.specs.declared.NwkOutcome.{NwkOutcome}
-use Rattle.children.specs.declared.Removal.{Removal}
-use Rattle.children.specs.Calls as children
-use Rattle.parent_annce.specs.declared.Announced.{Announced}
-use Rattle.parent_annce.specs.Calls as announcements
-use Rattle.link_status.specs.Digest.{onLinkStatus}
+use Rattle.neighbor_calls.specs.declared.TruthOutcome.{TruthOutcome}
+use Rattle.neighbor_calls.specs.declared.NwkOutcome.{NwkOutcome}
+use Rattle.neighbor_calls.specs.declared.Removal.{Removal}
+use Rattle.neighbor_calls.specs.Children as children
+use Rattle.neighbor_calls.specs.declared.Announced.{Announced}
+use Rattle.neighbor_calls.specs.Announcements as announcements
+use Rattle.neighbor_calls.specs.LinkStatus.{onLinkStatus}
 use Rattle.neighbor_answers.specs.Answers.{truthSaid, nwkSaid, childrenSaid, announcedSaid}
 use Rattle.child_arguments.specs.declared.Poll.{Poll}
 use Rattle.child_arguments.specs.Arguments.{pollOf, childOf, namesOf, commandOf}

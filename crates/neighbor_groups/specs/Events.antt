@@ -8,7 +8,7 @@ use Rattle.neighbor_loads.specs.Loads.{replied}
 use Rattle.neighbors.specs.declared.Neighbors.{Neighbors}
 use Rattle.neighbors.specs.declared.Outcome.{Outcome}
 use Rattle.neighbors.specs.Changes as changes
-use Rattle.link_quality.specs.Samples.{recordLqa}
+use Rattle.neighbor_calls.specs.Samples.{recordLqa}
 use Rattle.neighbor_answers.specs.Answers.{doneSaid}
 
 -- a call that changes the neighbours and answers nothing more

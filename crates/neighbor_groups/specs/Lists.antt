@@ -9,15 +9,15 @@ use Rattle.numbers.specs.Said.{Said}
 use Rattle.numbers.specs.Read.{eui64At}
 use Rattle.standard.specs.Ordered.{lookup}
 use Rattle.neighbor_table.specs.Entry.{neighborKey}
-use Rattle.neighbor_table.specs.Table.{looked}
+use Rattle.neighbor_table.specs.Lookup.{looked}
 use Rattle.neighbors.specs.declared.Neighbors.{Neighbors}
-use Rattle.neighbors.specs.declared.EntryAnswer.{EntryAnswer}
-use Rattle.neighbors.specs.declared.ChildrenAnswer.{ChildrenAnswer}
-use Rattle.neighbors.specs.declared.Eui64sAnswer.{Eui64sAnswer}
-use Rattle.neighbors.specs.declared.NwksAnswer.{NwksAnswer}
-use Rattle.neighbors.specs.declared.StatusesAnswer.{StatusesAnswer}
+use Rattle.neighbor_queries.specs.declared.EntryAnswer.{EntryAnswer}
+use Rattle.neighbor_queries.specs.declared.ChildrenAnswer.{ChildrenAnswer}
+use Rattle.neighbor_queries.specs.declared.Eui64sAnswer.{Eui64sAnswer}
+use Rattle.neighbor_queries.specs.declared.NwksAnswer.{NwksAnswer}
+use Rattle.neighbor_queries.specs.declared.StatusesAnswer.{StatusesAnswer}
 use Rattle.neighbors.specs.State.{wellFormed, rows}
-use Rattle.neighbors.specs.Answers.{entryIn, refusedEntry}
+use Rattle.neighbor_queries.specs.Answers.{entryIn, refusedEntry}
 use Rattle.neighbors.specs.Queries as queries
 use Rattle.neighbor_answers.specs.Answers.{qualitySaid, costSaid, isChildSaid, childrenSaid, eui64sSaid, nwksSaid, statusesSaid}
 

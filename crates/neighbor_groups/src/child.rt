@@ -1,10 +1,10 @@
 // The calls about children, and a link status, with values that may be given and with lists, one function for each word of a script.
-use children::NwkOutcome;
-use children::Removal;
-use children::TruthOutcome;
+use neighbor_calls::Announced;
+use neighbor_calls::NwkOutcome;
+use neighbor_calls::Removal;
+use neighbor_calls::TruthOutcome;
 use neighbor_loads::NeighborsReply;
 use neighbors::Neighbors;
-use parent_annce::Announced;
 ghost use mathlib.Core.Path.{_≡_};
 ghost use Rattle.neighbor_groups.specs.Child.{truthReply, nwkReply, removalReply, announcedReply, refreshChildTimeoutCall, setChildTimeoutCall, takeChildCall, removeClaimedChildrenCall, processParentAnnceCall, evictTimedOutChildrenCall, upsertChildCall, onLinkStatusCall};
 
@@ -70,7 +70,7 @@ pub fn refresh_child_timeout(state: Neighbors, args: &[u64]) -> NeighborsReply
     let poll = child_arguments::data_poll(args);
     let eui64 = poll.eui64;
     let nwk = poll.nwk;
-    truth_reply(children::refresh_child_timeout(state, eui64, nwk, poll.now))
+    truth_reply(neighbor_calls::refresh_child_timeout(state, eui64, nwk, poll.now))
 }
 
 // An end device child asks for another period.
@@ -81,14 +81,14 @@ pub fn set_child_timeout(state: Neighbors, args: &[u64]) -> NeighborsReply
     let timeout = numbers::at(args, 1);
     let configuration = numbers::short(args, 2);
     let now = numbers::at(args, 3);
-    truth_reply(children::set_child_timeout(state, nwk, timeout, configuration, now))
+    truth_reply(neighbor_calls::set_child_timeout(state, nwk, timeout, configuration, now))
 }
 
 // A child that attached elsewhere is taken out.
 pub fn take_child(state: Neighbors, args: &[u64]) -> NeighborsReply
     ensures { λ r. ⌜ r ≡ takeChildCall state (now (args .entry)) ⌝ }
 {
-    nwk_reply(children::take_child(state, numbers::eui64(args, 0)))
+    nwk_reply(neighbor_calls::take_child(state, numbers::eui64(args, 0)))
 }
 
 // Another router has claimed end devices with a keepalive of theirs: they go.
@@ -96,7 +96,7 @@ pub fn remove_claimed_children(state: Neighbors, args: &[u64]) -> NeighborsReply
     ensures { λ r. ⌜ r ≡ removeClaimedChildrenCall state (now (args .entry)) ⌝ }
 {
     let claimed = child_arguments::names(args);
-    removal_reply(parent_annce::remove_claimed_children(state, claimed))
+    removal_reply(neighbor_calls::remove_claimed_children(state, claimed))
 }
 
 // Another router announces end devices.
@@ -104,14 +104,14 @@ pub fn process_parent_annce(state: Neighbors, args: &[u64]) -> NeighborsReply
     ensures { λ r. ⌜ r ≡ processParentAnnceCall state (now (args .entry)) ⌝ }
 {
     let announced = child_arguments::names(args);
-    announced_reply(parent_annce::process_parent_annce(state, announced))
+    announced_reply(neighbor_calls::process_parent_annce(state, announced))
 }
 
 // The end device children whose deadline has passed are removed and named.
 pub fn evict_timed_out_children(state: Neighbors, args: &[u64]) -> NeighborsReply
     ensures { λ r. ⌜ r ≡ evictTimedOutChildrenCall state (now (args .entry)) ⌝ }
 {
-    removal_reply(children::evict_timed_out_children(state, numbers::at(args, 0)))
+    removal_reply(neighbor_calls::evict_timed_out_children(state, numbers::at(args, 0)))
 }
 
 // A child joins or rejoins.
@@ -120,7 +120,7 @@ pub fn upsert_child(state: Neighbors, args: &[u64]) -> NeighborsReply
 {
     let child = child_arguments::child(args);
     let now = numbers::at(args, 6);
-    crate::events::changed(children::upsert_child(state, child, now))
+    crate::events::changed(neighbor_calls::upsert_child(state, child, now))
 }
 
 // A link status command.
@@ -133,5 +133,5 @@ pub fn on_link_status(state: Neighbors, args: &[u64]) -> NeighborsReply
     let lqi = numbers::byte(args, 3);
     let now = numbers::at(args, 6);
     let command = child_arguments::command(args);
-    nwk_reply(link_status::on_link_status(state, own, name, nwk, lqi, command, now))
+    nwk_reply(neighbor_calls::on_link_status(state, own, name, nwk, lqi, command, now))
 }

@@ -22,7 +22,7 @@ pub fn changed(outcome: Outcome) -> NeighborsReply
 pub fn record_lqa(state: Neighbors, args: &[u64]) -> NeighborsReply
     ensures { λ r. ⌜ r ≡ recordLqaCall state (now (args .entry)) ⌝ }
 {
-    changed(link_quality::record_lqa(state, numbers::nwk(args, 0), numbers::byte(args, 1)))
+    changed(neighbor_calls::record_lqa(state, numbers::nwk(args, 0), numbers::byte(args, 1)))
 }
 
 // A known device has another network address.

@@ -1,13 +1,49 @@
 // The questions about one whole entry, and those that are answered with a list, one function for each word of a script.
-use neighbors::EntryAnswer;
+use neighbor_queries::EntryAnswer;
+use neighbor_queries::Presence;
+use neighbor_table::NeighborLookup;
 use neighbors::Neighbors;
-use neighbors::Presence;
 use numbers::Answer;
 use types::Eui64;
 use types::Refusal;
 ghost use mathlib.Core.Path.{_≡_};
+ghost use Rattle.standard.specs.Ordered.{lookup};
 ghost use Rattle.numbers.specs.Said.{spoken};
+ghost use Rattle.neighbor_table.specs.Entry.{neighborKey};
+ghost use Rattle.neighbor_table.specs.Lookup.{looked};
+ghost use Rattle.neighbors.specs.State.{WellFormed, rows};
 ghost use Rattle.neighbor_groups.specs.Lists.{entryOf, lqaCall, incomingLinkCostCall, isChildCall, sleepyChildrenCall, endDeviceChildrenCall, expectedBroadcastRelayersCall, linkStatusEntriesCall};
+
+// What stands under an extended address.
+fn look_up(state: Neighbors, eui64: Eui64) -> NeighborLookup
+    requires { ⌜ WellFormed state ⌝ }
+    ensures { λ r. ⌜ r ≡ looked (lookup neighborKey (eui64 .0) (rows state)) ⌝ }
+{
+    let keys = state.keys;
+    let nwks = state.nwks;
+    let links = state.links;
+    let counts = state.counts;
+    let deadlines = state.deadlines;
+    let periods = state.periods;
+    let heard = state.heard;
+    let added = state.added;
+    let beacons = state.beacons;
+    let bytes = state.bytes;
+    neighbor_columns::find(
+        &keys,
+        &nwks,
+        &links,
+        &counts,
+        &deadlines,
+        &periods,
+        &heard,
+        &added,
+        &beacons,
+        &bytes,
+        state.count,
+        eui64,
+    )
+}
 
 // The neighbour of an extended address.
 fn entry_of(state: Neighbors, eui64: Eui64) -> EntryAnswer
@@ -21,8 +57,7 @@ fn entry_of(state: Neighbors, eui64: Eui64) -> EntryAnswer
             entry,
         };
     }
-    let table = state.table;
-    let found = neighbor_table::find(table, eui64);
+    let found = look_up(state, eui64);
     let entry = found.entry;
     if found.found {
         EntryAnswer {

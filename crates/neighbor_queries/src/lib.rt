@@ -1,21 +1,13 @@
-// Questions to the neighbour table: which rows fit, the first of them, how many, and what is read off them in order.
-// Every question is one of a few filters, and each kind of answer has one loop.
+// Questions to the neighbours and what they are answered: which rows are asked for, lists, and an answer for each kind of call.
 use neighbor_table::NeighborEntry;
-use neighbor_table::NeighborLookup;
-use neighbor_table::NeighborTable;
+use neighbor_table::NwkDeviceType;
 use types::Eui64;
 use types::Nwk;
+use types::Refusal;
 ghost use mathlib.Core.Path.{_≡_};
-ghost use mathlib.Core.List.{[], map};
-ghost use mathlib.Core.Option.{some};
+ghost use mathlib.Core.List.{[]};
 ghost use Prim.Native.Nat.{_<_};
-ghost use Rattle.standard.specs.Ordered.{keep};
-ghost use Rattle.standard.specs.Query.{first, countFits};
-ghost use Rattle.standard.specs.Rows.{lesser, least};
-ghost use Rattle.neighbor_table.specs.Entry.{isRouter};
-ghost use Rattle.neighbor_table.specs.Table.{Formed64, rowsOf, looked};
-ghost use Rattle.neighbor_queries.specs.Filter.{fits, isEndDeviceChild, isSleepyChild};
-ghost use Rattle.neighbor_queries.specs.Lists.{childOf, statusOf, deadlineOf, addressOf, nameOf, childList, euiList, nwkList, statusList, oneMoreChild, oneMoreEui, oneMoreNwk, oneMoreStatus, moment, timeOf};
+ghost use Rattle.neighbor_queries.specs.Lists.{childList, euiList, nwkList, statusList, oneMoreChild, oneMoreEui, oneMoreNwk, oneMoreStatus};
 
 // Which neighbours are asked for.
 pub enum Filter {
@@ -75,43 +67,102 @@ pub enum Moment {
     Never,
 }
 
-fn is_end_device_child(e: NeighborEntry) -> bool
-    ensures { λ r. ⌜ r ≡ isEndDeviceChild e ⌝ }
-{
-    let device_type = e.device_type;
-    e.is_child() & device_type.is_end_device()
+// A yes or no.
+pub enum Truth {
+    Is(bool),
+    Refused(Refusal),
 }
 
-fn is_sleepy_child(e: NeighborEntry) -> bool
-    ensures { λ r. ⌜ r ≡ isSleepyChild e ⌝ }
-{
-    !e.rx_on_when_idle & e.is_child()
+// A number of neighbours.
+pub enum Count {
+    Is(usize),
+    Refused(Refusal),
 }
 
-fn is_router(e: NeighborEntry) -> bool
-    ensures { λ r. ⌜ r ≡ isRouter (e .«device_type») ⌝ }
-{
-    let device_type = e.device_type;
-    device_type.is_router()
+// An extended address, if there is one.
+pub enum Eui64Answer {
+    Is(Eui64),
+    Nothing,
+    Refused(Refusal),
 }
 
-impl Filter {
-    pub fn fits(self, e: NeighborEntry) -> bool
-        ensures { λ r. ⌜ r ≡ fits self e ⌝ }
-    {
-        let address = e.network_address;
-        match self {
-            Filter::Address(nwk) => address.0 == nwk.0,
-            Filter::EndDeviceChild => is_end_device_child(e),
-            Filter::EndDeviceChildAt(nwk) => (address.0 == nwk.0) & is_end_device_child(e),
-            Filter::SleepyChild => is_sleepy_child(e),
-            Filter::SleepyChildAt(nwk) => (address.0 == nwk.0) & is_sleepy_child(e),
-            Filter::LiveRouter => (0 < e.outgoing_cost) & is_router(e),
-            Filter::LiveLinkAt(nwk) => (address.0 == nwk.0) & (0 < e.outgoing_cost),
-            Filter::SampledRouter => (e.lqas.len == 3) & is_router(e),
-            Filter::TimedOut(now) => (e.timeout_at <= now) & is_end_device_child(e),
-        }
-    }
+// A network address, if there is one.
+pub enum NwkAnswer {
+    Is(Nwk),
+    Nothing,
+    Refused(Refusal),
+}
+
+// The radio link to one neighbour.
+pub struct NeighborLink {
+    pub eui64: Eui64,
+    // The cost as the neighbour measures it.
+    pub outgoing_cost: u8,
+    // The cost as this device measures it.
+    pub incoming_cost: u8,
+}
+
+// The link to a neighbour, if it is one.
+pub enum LinkAnswer {
+    Is(NeighborLink),
+    Nothing,
+    Refused(Refusal),
+}
+
+// What a neighbour can do, if it is one.
+pub enum Capability {
+    Is {
+        device_type: NwkDeviceType,
+        rx_on_when_idle: bool,
+    },
+    Nothing,
+    Refused(Refusal),
+}
+
+// A moment, if there is one.
+pub enum MomentAnswer {
+    At(u64),
+    Never,
+    Refused(Refusal),
+}
+
+// Whether a call was done.
+pub enum Answer {
+    Done,
+    Refused(Refusal),
+}
+
+// Whether there is an entry.
+pub enum Presence {
+    Found,
+    Nothing,
+    Refused(Refusal),
+}
+
+// An entry; the blank one where there is none.
+pub struct EntryAnswer {
+    pub answer: Presence,
+    pub entry: NeighborEntry,
+}
+
+pub struct ChildrenAnswer {
+    pub answer: Answer,
+    pub list: ChildList,
+}
+
+pub struct Eui64sAnswer {
+    pub answer: Answer,
+    pub list: Eui64List,
+}
+
+pub struct NwksAnswer {
+    pub answer: Answer,
+    pub list: NwkList,
+}
+
+pub struct StatusesAnswer {
+    pub answer: Answer,
+    pub list: LinkStatusList,
 }
 
 impl ChildList {
@@ -211,169 +262,4 @@ impl LinkStatusList {
         list.count = at + 1;
         list
     }
-}
-
-pub fn child_of(e: NeighborEntry) -> Child
-    ensures { λ r. ⌜ r ≡ childOf e ⌝ }
-{
-    let eui64 = e.extended_address;
-    let network_address = e.network_address;
-    Child {
-        eui64,
-        network_address,
-    }
-}
-
-fn status_of(e: NeighborEntry) -> LinkStatus
-    ensures { λ r. ⌜ r ≡ statusOf e ⌝ }
-{
-    let address = e.network_address;
-    LinkStatus {
-        address,
-        incoming_cost: e.incoming_link_cost(),
-        outgoing_cost: e.outgoing_cost,
-    }
-}
-
-// The earlier of a moment that there may be and one that there is.
-fn earlier(m: Moment, at: u64) -> Moment
-    ensures { λ r. ⌜ r ≡ moment (lesser (timeOf m) (some at)) ⌝ }
-{
-    match m {
-        Moment::Never => Moment::At(at),
-        Moment::At(first) => {
-            if first <= at {
-                Moment::At(first)
-            } else {
-                Moment::At(at)
-            }
-        }
-    }
-}
-
-// The first neighbour that fits.
-pub fn first_fitting(t: NeighborTable, filter: Filter) -> NeighborLookup
-    requires { ⌜ Formed64 t ⌝ }
-    ensures { λ r. ⌜ r ≡ looked (first (fits filter) (rowsOf t)) ⌝ }
-{
-    let n = t.count;
-    let mut i: usize = 0;
-    while i < n {
-        let e = t.entries[i];
-        if filter.fits(e) {
-            return neighbor_table::found(e);
-        }
-        i += 1;
-    }
-    neighbor_table::missing()
-}
-
-// How many neighbours fit.
-pub fn count_fitting(t: NeighborTable, filter: Filter) -> usize
-    requires { ⌜ Formed64 t ⌝ }
-    ensures { λ r. ⌜ r ≡ countFits (fits filter) (rowsOf t) ⌝ }
-{
-    let n = t.count;
-    let mut fitting: usize = 0;
-    let mut i: usize = 0;
-    while i < n {
-        let e = t.entries[i];
-        if filter.fits(e) {
-            fitting += 1;
-        }
-        i += 1;
-    }
-    fitting
-}
-
-// The addresses of the neighbours that fit, as children.
-pub fn children_fitting(t: NeighborTable, filter: Filter) -> ChildList
-    requires { ⌜ Formed64 t ⌝ }
-    ensures { λ r. ⌜ r ≡ childList (map childOf (keep (fits filter) (rowsOf t))) ⌝ }
-{
-    let n = t.count;
-    let mut list = ChildList::new();
-    let mut i: usize = 0;
-    while i < n {
-        let e = t.entries[i];
-        if filter.fits(e) {
-            list = list.push(child_of(e));
-        }
-        i += 1;
-    }
-    list
-}
-
-// The extended addresses of the neighbours that fit.
-pub fn names_fitting(t: NeighborTable, filter: Filter) -> Eui64List
-    requires { ⌜ Formed64 t ⌝ }
-    ensures { λ r. ⌜ r ≡ euiList (map nameOf (keep (fits filter) (rowsOf t))) ⌝ }
-{
-    let n = t.count;
-    let mut list = Eui64List::new();
-    let mut i: usize = 0;
-    while i < n {
-        let e = t.entries[i];
-        if filter.fits(e) {
-            let name = e.extended_address;
-            list = list.push(name);
-        }
-        i += 1;
-    }
-    list
-}
-
-// The network addresses of the neighbours that fit.
-pub fn addresses_fitting(t: NeighborTable, filter: Filter) -> NwkList
-    requires { ⌜ Formed64 t ⌝ }
-    ensures { λ r. ⌜ r ≡ nwkList (map addressOf (keep (fits filter) (rowsOf t))) ⌝ }
-{
-    let n = t.count;
-    let mut list = NwkList::new();
-    let mut i: usize = 0;
-    while i < n {
-        let e = t.entries[i];
-        if filter.fits(e) {
-            let address = e.network_address;
-            list = list.push(address);
-        }
-        i += 1;
-    }
-    list
-}
-
-// The link statuses of the neighbours that fit.
-pub fn statuses_fitting(t: NeighborTable, filter: Filter) -> LinkStatusList
-    requires { ⌜ Formed64 t ⌝ }
-    ensures { λ r. ⌜ r ≡ statusList (map statusOf (keep (fits filter) (rowsOf t))) ⌝ }
-{
-    let n = t.count;
-    let mut list = LinkStatusList::new();
-    let mut i: usize = 0;
-    while i < n {
-        let e = t.entries[i];
-        if filter.fits(e) {
-            list = list.push(status_of(e));
-        }
-        i += 1;
-    }
-    list
-}
-
-// The earliest deadline of the neighbours that fit.
-pub fn earliest_fitting(t: NeighborTable, filter: Filter) -> Moment
-    requires { ⌜ Formed64 t ⌝ }
-    ensures { λ r. ⌜ r ≡ moment (least (map deadlineOf (keep (fits filter) (rowsOf t)))) ⌝ }
-{
-    let n = t.count;
-    let mut first = Moment::Never;
-    let mut i: usize = 0;
-    while i < n {
-        let e = t.entries[i];
-        if filter.fits(e) {
-            first = earlier(first, e.timeout_at);
-        }
-        i += 1;
-    }
-    first
 }

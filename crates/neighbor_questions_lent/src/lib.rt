@@ -1,15 +1,15 @@
 // The questions that are asked of the neighbours, to columns that are lent: the answers of `neighbors` where no refusal is to be given.
 use flat_map::Place;
+use neighbor_queries::Capability;
 use neighbor_queries::ChildList;
+use neighbor_queries::Eui64Answer;
 use neighbor_queries::Eui64List;
 use neighbor_queries::Filter;
+use neighbor_queries::LinkAnswer;
 use neighbor_queries::LinkStatusList;
 use neighbor_queries::Moment;
+use neighbor_queries::NeighborLink;
 use neighbor_queries::NwkList;
-use neighbors::Capability;
-use neighbors::Eui64Answer;
-use neighbors::LinkAnswer;
-use neighbors::NeighborLink;
 use types::Eui64;
 use types::Nwk;
 ghost use mathlib.Core.List.{[], _∷_, map};
@@ -19,13 +19,13 @@ ghost use Rattle.standard.specs.Query.{first, someFits, countFits};
 ghost use Rattle.standard.specs.Rows.{least};
 ghost use Rattle.columns.specs.Columns.{Ordered};
 ghost use Rattle.neighbor_table.specs.Entry.{neighborKey};
-ghost use Rattle.neighbor_table.specs.Table.{looked};
+ghost use Rattle.neighbor_table.specs.Lookup.{looked};
 ghost use Rattle.neighbor_columns.specs.Lent.{Asked, lentKeys, lentLinks, seen};
 ghost use Rattle.neighbor_queries.specs.Filter.{fits};
 ghost use Rattle.neighbor_queries.specs.Lists.{childOf, statusOf, deadlineOf, addressOf, nameOf, childList, euiList, nwkList, statusList, moment};
 ghost use Rattle.neighbor_queries.specs.declared.Filter.the-variants.{Address, EndDeviceChild, EndDeviceChildAt, SleepyChild, SleepyChildAt, LiveRouter, SampledRouter};
 ghost use Rattle.neighbor_queries_lent.specs.Read.{Untimed, InUse, lentWords, lentDeadlines};
-ghost use Rattle.neighbors.specs.Answers.{linkIn, nameIn, capabilityIn, isUnconfirmed};
+ghost use Rattle.neighbor_queries.specs.Answers.{linkIn, nameIn, capabilityIn, isUnconfirmed};
 
 // The radio link to the neighbour with a network address.
 pub fn link(keys: &[u64], nwks: &[u16], links: &[u64], count: usize, nwk: Nwk) -> LinkAnswer

@@ -2,7 +2,7 @@
 -- Document 01, "Refusal numbers": "costs stored for neighbours at most 7, sample count at most 3, .. unused places blank".
 -- Assumes nothing.
 use Prim.Native.Nat.{ℕ}
-use mathlib.Core.Bool.{Bool, true, false, not, cond, _&&_}
+use mathlib.Core.Bool.{Bool, true, false, cond, _&&_}
 use lib.Dec.{eqb, leb}
 use Rattle.standard.specs.LinkCost.{linkCost}
 use Rattle.standard.specs.Median.{medianOf}
@@ -98,38 +98,6 @@ blankNeighbor = record {
   «router_inbound_activity» = 0;
   «security_timer» = 0;
 }
-
--- the times, counters and flags are all 0
-unfoldable pub quiet : NeighborEntry → Bool
-quiet e =
-    eqb (e .«end_device_configuration») 0
-    && eqb (e .«timeout_at») 0
-    && eqb (e .«device_timeout») 0
-    && eqb (e .«transmit_failure») 0
-    && eqb (e .«last_link_status_timestamp») 0
-    && eqb (e .«incoming_beacon_timestamp») 0
-    && eqb (e .«beacon_transmission_time_offset») 0
-    && eqb (e .«mac_unicast_bytes_transmitted») 0
-    && eqb (e .«mac_unicast_bytes_received») 0
-    && eqb (e .«router_added_timestamp») 0
-    && eqb (e .«router_connectivity») 0
-    && eqb (e .«router_neighbor_set_diversity») 0
-    && eqb (e .«router_outbound_activity») 0
-    && eqb (e .«router_inbound_activity») 0
-    && eqb (e .«security_timer») 0
-    && not (e .«rx_on_when_idle»)
-    && not (e .«keepalive_received»)
-
--- whether an entry is the blank one, computed
-unfoldable pub isBlank : NeighborEntry → Bool
-isBlank e =
-    eqb (e .«extended_address» .0) 0
-    && eqb (e .«network_address» .0) 0
-    && eqb (e .«outgoing_cost») 0
-    && eqb (deviceTypeNumber (e .«device_type»)) 0
-    && eqb (relationshipNumber (e .relationship)) 0
-    && ring.isFresh (e .lqas)
-    && quiet e
 
 -- "costs stored for neighbours at most 7", and samples that are well formed
 unfoldable pub isSound : NeighborEntry → Bool

@@ -1,19 +1,11 @@
-// The neighbour table: 64 places by value, ordered by extended address. Each function is a step on its rows.
-use flat_map::Place;
+// A row of the neighbour table: its fields, what is read off them, and the answer of a look-up.
 use ring_buffer::RingBuffer;
 use types::Eui64;
 use types::Nwk;
-ghost use mathlib.Core.Bool.{cond};
 ghost use mathlib.Core.Path.{_≡_};
-ghost use mathlib.Core.List.{[]};
 ghost use mathlib.Core.Option.{none, some};
-ghost use Prim.Native.Nat.{_+_, _-_, _≤_, _<_};
-ghost use lib.Dec.{leb};
-ghost use lib.ListN.{length};
-ghost use Rattle.standard.specs.Ordered.{lookup, put, remove, countWith};
-ghost use Rattle.standard.specs.Query.{entryAt};
-ghost use Rattle.neighbor_table.specs.Entry.{isRouter, isEndDevice, isChild, qualityOf, costOf, deviceTypeNumber, relationshipNumber, neighborKey, blankNeighbor, quiet, isBlank, isSound};
-ghost use Rattle.neighbor_table.specs.Table.{Formed64, formed64, wellFormed, rowsOf, tableOf, inserted, removed, looked};
+ghost use Rattle.neighbor_table.specs.Entry.{isRouter, isEndDevice, isChild, qualityOf, costOf, deviceTypeNumber, relationshipNumber, blankNeighbor};
+ghost use Rattle.neighbor_table.specs.Lookup.{looked};
 
 // What a device is to its network, in the specification's number order.
 pub enum NwkDeviceType {
@@ -171,12 +163,6 @@ impl NeighborEntry {
     }
 }
 
-pub struct NeighborTable {
-    pub keys: [u64; 64],
-    pub entries: [NeighborEntry; 64],
-    pub count: usize,
-}
-
 // What stands under an address, or at a place: the entry, or the blank one where there is none.
 pub struct NeighborLookup {
     pub found: bool,
@@ -214,128 +200,6 @@ fn blank() -> NeighborEntry
     }
 }
 
-// Whether the times, counters and flags of an entry are all 0.
-fn is_quiet(e: NeighborEntry) -> bool
-    ensures { λ r. ⌜ r ≡ quiet e ⌝ }
-{
-    (e.end_device_configuration == 0)
-        & (e.timeout_at == 0)
-        & (e.device_timeout == 0)
-        & (e.transmit_failure == 0)
-        & (e.last_link_status_timestamp == 0)
-        & (e.incoming_beacon_timestamp == 0)
-        & (e.beacon_transmission_time_offset == 0)
-        & (e.mac_unicast_bytes_transmitted == 0)
-        & (e.mac_unicast_bytes_received == 0)
-        & (e.router_added_timestamp == 0)
-        & (e.router_connectivity == 0)
-        & (e.router_neighbor_set_diversity == 0)
-        & (e.router_outbound_activity == 0)
-        & (e.router_inbound_activity == 0)
-        & (e.security_timer == 0)
-        & !e.rx_on_when_idle
-        & !e.keepalive_received
-}
-
-// Whether an entry is the blank one.
-fn is_blank(e: NeighborEntry) -> bool
-    ensures { λ r. ⌜ r ≡ isBlank e ⌝ }
-{
-    let device_type = e.device_type;
-    let relationship = e.relationship;
-    let lqas = e.lqas;
-    (e.extended_address.0 == 0)
-        & (e.network_address.0 == 0)
-        & (e.outgoing_cost == 0)
-        & (device_type.number() == 0)
-        & (relationship.number() == 0)
-        & lqas.is_fresh()
-        & is_quiet(e)
-}
-
-// Whether an entry's samples are well formed, and its cost is one that a link can have.
-fn is_sound(e: NeighborEntry) -> bool
-    ensures { λ r. ⌜ r ≡ isSound e ⌝ }
-{
-    let lqas = e.lqas;
-    (e.outgoing_cost <= 7) & lqas.well_formed()
-}
-
-// Whether a place holds what it may: a sound entry where it is in use, else the blank one.
-fn place_holds(used: bool, e: NeighborEntry) -> bool
-    ensures { λ r. ⌜ r ≡ cond used (isSound e) (isBlank e) ⌝ }
-{
-    if used {
-        return is_sound(e);
-    }
-    is_blank(e)
-}
-
-// Whether the keys, the entries and the count make a table, whatever the entries say.
-pub fn formed(t: NeighborTable) -> bool
-    ensures { λ r. ⌜ r ≡ formed64 t ⌝ }
-{
-    let n = t.count;
-    if 64 < n {
-        return false;
-    }
-    if !flat_map::rising(&t.keys, n) {
-        return false;
-    }
-    let mut kept = true;
-    let mut i: usize = 0;
-    while i < 64 {
-        let k = t.keys[i];
-        let e = t.entries[i];
-        let blank = is_blank(e);
-        kept = kept & ((k == e.extended_address.0) & ((i < n) | blank));
-        i += 1;
-    }
-    kept
-}
-
-// An entry put in at a place, both arrays shifted right.
-fn insert_at(t: NeighborTable, i: usize, key: u64, e: NeighborEntry) -> NeighborTable
-    requires { ⌜ t .count < 64 ⌝ }
-    ensures { λ r. ⌜ r ≡ inserted t i key e ⌝ }
-{
-    let mut u = t;
-    let mut k = key;
-    let mut x = e;
-    let mut j = i;
-    while j < 64 {
-        let k2 = u.keys[j];
-        let x2 = u.entries[j];
-        u.keys[j] = k;
-        u.entries[j] = x;
-        k = k2;
-        x = x2;
-        j += 1;
-    }
-    u.count = t.count + 1;
-    u
-}
-
-// The entry at a place taken out, both arrays shifted left.
-pub fn remove_at(t: NeighborTable, i: usize) -> NeighborTable
-    requires { ⌜ (i < 64) × (0 < t .count) ⌝ }
-    ensures { λ r. ⌜ r ≡ removed t i ⌝ }
-{
-    let mut u = t;
-    let mut j = i;
-    while j < 63 {
-        u.keys[j] = u.keys[j + 1];
-        let x = u.entries[j + 1];
-        u.entries[j] = x;
-        j += 1;
-    }
-    u.keys[63] = 0;
-    let b = blank();
-    u.entries[63] = b;
-    u.count = t.count - 1;
-    u
-}
-
 // A look-up that found an entry.
 pub fn found(entry: NeighborEntry) -> NeighborLookup
     ensures { λ r. ⌜ r ≡ looked (some entry) ⌝ }
@@ -352,116 +216,4 @@ pub fn missing() -> NeighborLookup
         found: false,
         entry,
     }
-}
-
-// The table with no neighbour.
-pub fn new() -> NeighborTable
-    ensures { λ r. ⌜ r ≡ tableOf [] ⌝ }
-{
-    let b = blank();
-    NeighborTable {
-        keys: [0; 64],
-        entries: [b; 64],
-        count: 0,
-    }
-}
-
-// Whether a table is well formed.
-pub fn well_formed(t: NeighborTable) -> bool
-    ensures { λ r. ⌜ r ≡ wellFormed t ⌝ }
-{
-    let n = t.count;
-    if 64 < n {
-        return false;
-    }
-    if !flat_map::rising(&t.keys, n) {
-        return false;
-    }
-    let mut kept = true;
-    let mut i: usize = 0;
-    while i < 64 {
-        let k = t.keys[i];
-        let e = t.entries[i];
-        let holds = place_holds(i < n, e);
-        kept = kept & ((k == e.extended_address.0) & holds);
-        i += 1;
-    }
-    kept
-}
-
-// The neighbour with an extended address.
-pub fn find(t: NeighborTable, eui64: Eui64) -> NeighborLookup
-    requires { ⌜ Formed64 t ⌝ }
-    ensures { λ r. ⌜ r ≡ looked (lookup neighborKey (eui64 .0) (rowsOf t)) ⌝ }
-{
-    let place = flat_map::index_of(&t.keys, t.count, eui64.0);
-    match place {
-        Place::Found(i) => {
-            let e = t.entries[i];
-            found(e)
-        }
-        Place::Missing(_) => missing(),
-    }
-}
-
-// Whether there is room for a neighbour: a free place, or one that it has already.
-pub fn has_room(t: NeighborTable, eui64: Eui64) -> bool
-    requires { ⌜ Formed64 t ⌝ }
-    ensures { λ r. ⌜ r ≡ leb (countWith neighborKey (eui64 .0) (rowsOf t)) 64 ⌝ }
-{
-    let place = flat_map::index_of(&t.keys, t.count, eui64.0);
-    match place {
-        Place::Found(_) => true,
-        Place::Missing(_) => t.count < 64,
-    }
-}
-
-// The table with an entry under its address: over the one that is there, or in a free place.
-pub fn put(t: NeighborTable, e: NeighborEntry) -> NeighborTable
-    requires { ⌜ Formed64 t × (countWith neighborKey (neighborKey e) (rowsOf t) ≤ 64) ⌝ }
-    ensures { λ r. ⌜ r ≡ tableOf (put neighborKey e (rowsOf t)) ⌝ }
-{
-    let eui64 = e.extended_address;
-    let key = eui64.0;
-    let place = flat_map::index_of(&t.keys, t.count, key);
-    match place {
-        Place::Found(i) => {
-            let mut u = t;
-            u.entries[i] = e;
-            u
-        }
-        Place::Missing(i) => insert_at(t, i, key, e),
-    }
-}
-
-// The table without the neighbour of an address.
-pub fn remove(t: NeighborTable, eui64: Eui64) -> NeighborTable
-    requires { ⌜ Formed64 t ⌝ }
-    ensures { λ r. ⌜ r ≡ tableOf (remove neighborKey (eui64 .0) (rowsOf t)) ⌝ }
-{
-    let place = flat_map::index_of(&t.keys, t.count, eui64.0);
-    match place {
-        Place::Found(i) => remove_at(t, i),
-        Place::Missing(_) => t,
-    }
-}
-
-// How many neighbours there are.
-pub fn count_of(t: NeighborTable) -> usize
-    requires { ⌜ Formed64 t ⌝ }
-    ensures { λ r. ⌜ r ≡ length (rowsOf t) ⌝ }
-{
-    t.count
-}
-
-// The neighbour at a place, in order of address; nothing from the count on.
-pub fn entry_at(t: NeighborTable, i: usize) -> NeighborLookup
-    requires { ⌜ Formed64 t ⌝ }
-    ensures { λ r. ⌜ r ≡ looked (entryAt i (rowsOf t)) ⌝ }
-{
-    if t.count <= i {
-        return missing();
-    }
-    let e = t.entries[i];
-    found(e)
 }

@@ -1,2 +1,2 @@
-pub mod Checked
-pub mod Kept
+pub mod State
+pub mod Ready

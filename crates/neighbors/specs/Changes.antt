@@ -5,6 +5,7 @@ use mathlib.Core.Bool.{cond}
 use mathlib.Core.List.{map}
 use Rattle.types.specs.declared.Nwk.{Nwk}
 use Rattle.types.specs.declared.Eui64.{Eui64}
+use Rattle.types.specs.declared.Refusal.{Refusal}
 use Rattle.types.specs.declared.Refusal.the-variants.{StateIllFormed}
 use Rattle.standard.specs.Ordered as ordered
 use Rattle.neighbor_table.specs.Entry.{neighborKey}
@@ -14,47 +15,33 @@ use Rattle.neighbor_changes.specs.Change.{forgiven}
 use Rattle.neighbor_changes.specs.Rules.{changedAt, changedFirst}
 use Rattle.neighbors.specs.declared.Neighbors.{Neighbors}
 use Rattle.neighbors.specs.declared.Outcome.{Outcome}
-use Rattle.neighbors.specs.State.{wellFormed, rows, withRows}
-use Rattle.neighbors.specs.Answers.{refused}
+use Rattle.neighbor_queries.specs.declared.Answer.the-variants.{Refused}
+use Rattle.neighbors.specs.State.{wellFormed, rows, doneWith}
+
+-- "All hand back the given state .. and no other answer"
+abbrev pub refused : Neighbors → Refusal → Outcome
+refused s r = record { answer = Refused r; state = s }
 
 -- a known device has another network address
-abbrev pub updateNetworkAddressCore : Neighbors → Eui64 → Nwk → Outcome
-updateNetworkAddressCore s eui64 nwk = withRows s (changedAt (changes.Address nwk) eui64 (rows s))
-
 unfoldable pub updateNetworkAddress : Neighbors → Eui64 → Nwk → Outcome
-updateNetworkAddress s eui64 nwk = cond (wellFormed s) (updateNetworkAddressCore s eui64 nwk) (refused s StateIllFormed)
+updateNetworkAddress s eui64 nwk = cond (wellFormed s) (doneWith s (changedAt (changes.Address nwk) eui64 (rows s))) (refused s StateIllFormed)
 
 -- a neighbour is forgotten
-abbrev pub removeCore : Neighbors → Eui64 → Outcome
-removeCore s eui64 = withRows s (ordered.remove neighborKey (eui64 .0) (rows s))
-
 unfoldable pub remove : Neighbors → Eui64 → Outcome
-remove s eui64 = cond (wellFormed s) (removeCore s eui64) (refused s StateIllFormed)
+remove s eui64 = cond (wellFormed s) (doneWith s (ordered.remove neighborKey (eui64 .0) (rows s))) (refused s StateIllFormed)
 
 -- a unicast went out by a neighbour
-abbrev pub recordOutboundActivityCore : Neighbors → Eui64 → Outcome
-recordOutboundActivityCore s eui64 = withRows s (changedAt changes.Outbound eui64 (rows s))
-
 unfoldable pub recordOutboundActivity : Neighbors → Eui64 → Outcome
-recordOutboundActivity s eui64 = cond (wellFormed s) (recordOutboundActivityCore s eui64) (refused s StateIllFormed)
+recordOutboundActivity s eui64 = cond (wellFormed s) (doneWith s (changedAt changes.Outbound eui64 (rows s))) (refused s StateIllFormed)
 
 -- a unicast came in by a neighbour
-abbrev pub recordInboundActivityCore : Neighbors → Nwk → Outcome
-recordInboundActivityCore s nwk = withRows s (changedFirst changes.Inbound (Address nwk) (rows s))
-
 unfoldable pub recordInboundActivity : Neighbors → Nwk → Outcome
-recordInboundActivity s nwk = cond (wellFormed s) (recordInboundActivityCore s nwk) (refused s StateIllFormed)
+recordInboundActivity s nwk = cond (wellFormed s) (doneWith s (changedFirst changes.Inbound (Address nwk) (rows s))) (refused s StateIllFormed)
 
 -- a unicast to a neighbour was not acknowledged
-abbrev pub recordTransmitFailureCore : Neighbors → Eui64 → Outcome
-recordTransmitFailureCore s eui64 = withRows s (changedAt changes.Failure eui64 (rows s))
-
 unfoldable pub recordTransmitFailure : Neighbors → Eui64 → Outcome
-recordTransmitFailure s eui64 = cond (wellFormed s) (recordTransmitFailureCore s eui64) (refused s StateIllFormed)
+recordTransmitFailure s eui64 = cond (wellFormed s) (doneWith s (changedAt changes.Failure eui64 (rows s))) (refused s StateIllFormed)
 
 -- every failure is forgotten, as the counter of all transmissions wrapped (05-3474, table 3-75)
-abbrev pub resetTransmitFailuresCore : Neighbors → Outcome
-resetTransmitFailuresCore s = withRows s (map forgiven (rows s))
-
 unfoldable pub resetTransmitFailures : Neighbors → Outcome
-resetTransmitFailures s = cond (wellFormed s) (resetTransmitFailuresCore s) (refused s StateIllFormed)
+resetTransmitFailures s = cond (wellFormed s) (doneWith s (map forgiven (rows s))) (refused s StateIllFormed)

@@ -1,4 +1,3 @@
 pub mod State
-pub mod Answers
 pub mod Queries
 pub mod Changes

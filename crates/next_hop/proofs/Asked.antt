@@ -28,11 +28,12 @@ use Rattle.neighbors.specs.State as neighbours
 use Rattle.frame.specs.declared.NwkHeader.{NwkHeader}
 use Rattle.frame.specs.Header.{carriesLong}
 use Rattle.relay_header.specs.Relayed.{isEndDeviceChild}
-use Rattle.next_hop.specs.declared.RouteDirective.the-variants.{StackDecides}
-use Rattle.next_hop.specs.declared.SendKind.the-variants.{Route}
+use Rattle.hop_choice.specs.declared.RouteDirective.the-variants.{StackDecides}
+use Rattle.hop_choice.specs.declared.SendKind.the-variants.{Route}
+use Rattle.hop_choice.specs.Choice.{firstOf}
 use Rattle.next_hop.specs.declared.SendMode.{SendMode}
 use Rattle.next_hop.specs.declared.ResolveOutcome.{ResolveOutcome}
-use Rattle.next_hop.specs.Decision.{hopTo, refusedWith, fromWay, recordStep, fromHop, activeStep, undiscovered, firstOf, decided, resolve}
+use Rattle.next_hop.specs.Decision.{hopTo, refusedWith, fromWay, recordStep, fromHop, activeStep, undiscovered, decidedOn, resolve}
 
 -- what is made of the route query's answer, and of the look-up's
 abbrev pub byWay : NwkHeader → RouteToOutcome → ResolveOutcome
@@ -64,13 +65,13 @@ module _ (r : Routing) (n : Neighbors) (h : NwkHeader) (relays : RelayList) (lim
     (known : neighbours.wellFormed n ≡ true)
     (agree : agrees (recordTable r) store ≡ true)
     (short : carriesLong h ≡ false)
-    (apart : isEndDeviceChild n (h .destination) ≡ false) where
+    (apart : isEndDeviceChild (neighbours.rows n) (h .destination) ≡ false) where
   abbrev stack : SendMode
   stack = record { kind = Route StackDecides; relays = relays }
 
   pub concentrator-asks : resolve r n h stack (record { «is_concentrator» = true; «force_route_discovery» = false; «max_source_route» = limit }) store
       ≡ byWay h (routeTo r (h .destination) limit store)
-  unfolding resolve decided recordStep activeStep routeTo
+  unfolding resolve decidedOn recordStep activeStep routeTo
   concentrator-asks =
       rw (formed, known, agree, short, apart)
       (asked-both r h (wayTo (h .destination) limit (recordTable r) store .relays) (wayTo (h .destination) limit (recordTable r) store .route)
@@ -78,5 +79,5 @@ module _ (r : Routing) (n : Neighbors) (h : NwkHeader) (relays : RelayList) (lim
 
   pub router-asks : resolve r n h stack (record { «is_concentrator» = false; «force_route_discovery» = false; «max_source_route» = limit }) store
       ≡ byHop h (nextHop r (h .destination))
-  unfolding resolve decided recordStep activeStep nextHop
+  unfolding resolve decidedOn recordStep activeStep nextHop
   router-asks = rw (formed, known, agree, short, apart) (asked-one h (hopAnswer (hopAt (h .destination .0) (routesIn r))))

@@ -20,7 +20,7 @@ use Rattle.frame.specs.declared.NwkHeader.{NwkHeader}
 use Rattle.frame.specs.Header.{carriesLong, sourceRouted}
 use Rattle.next_hop.specs.declared.SendMode.{SendMode}
 use Rattle.next_hop.specs.declared.NextHop.the-variants.{Refused, Resolved}
-use Rattle.next_hop.specs.declared.Policy.{Policy}
+use Rattle.hop_choice.specs.declared.Policy.{Policy}
 use Rattle.next_hop.specs.declared.ResolveOutcome.{ResolveOutcome}
 use Rattle.next_hop.specs.Decision.{refusedWith, decided, namesLong, resolve}
 use Rattle.next_hop.specs.Kept.{SameBesides, Shaped, kept, by-host, by-record}

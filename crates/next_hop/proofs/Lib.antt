@@ -1,4 +1,5 @@
-pub mod Way
+pub mod Chosen
+pub mod Makeable
 pub mod Outcomes
 pub mod HeaderFrame
 pub mod Asked

@@ -21,17 +21,19 @@ use Rattle.routing.specs.Routes.{routesIn}
 use Rattle.routing.specs.declared.Routing.{Routing}
 use Rattle.routing.specs.Records.{answerBy}
 use Rattle.neighbors.specs.declared.Neighbors.{Neighbors}
+use Rattle.neighbors.specs.State as neighbors
 use Rattle.frame.specs.declared.NwkHeader.{NwkHeader}
 use Rattle.relay_header.specs.Relayed.{isEndDeviceChild}
-use Rattle.next_hop.specs.declared.HostRoute.{HostRoute}
-use Rattle.next_hop.specs.declared.HostRoute.the-variants as host
-use Rattle.next_hop.specs.declared.RouteDirective.the-variants.{StackDecides, Hint, Force}
-use Rattle.next_hop.specs.declared.SendKind.{SendKind}
-use Rattle.next_hop.specs.declared.SendKind.the-variants.{Direct, Route}
+use Rattle.hop_choice.specs.declared.HostRoute.{HostRoute}
+use Rattle.hop_choice.specs.declared.HostRoute.the-variants as host
+use Rattle.hop_choice.specs.declared.RouteDirective.the-variants.{StackDecides, Hint, Force}
+use Rattle.hop_choice.specs.declared.SendKind.{SendKind}
+use Rattle.hop_choice.specs.declared.SendKind.the-variants.{Direct, Route}
+use Rattle.hop_choice.specs.Choice.{firstOf}
 use Rattle.next_hop.specs.declared.SendMode.{SendMode}
-use Rattle.next_hop.specs.declared.Policy.{Policy}
+use Rattle.hop_choice.specs.declared.Policy.{Policy}
 use Rattle.next_hop.specs.declared.ResolveOutcome.{ResolveOutcome}
-use Rattle.next_hop.specs.Decision.{hopTo, refusedWith, bySourceRoute, hostRouted, directStep, forcedStep, fromWay, recordStep, fromHop, activeStep, hintStep, undiscovered, firstOf, stepsOf, decided}
+use Rattle.next_hop.specs.Decision.{hopTo, refusedWith, bySourceRoute, hostRouted, directStep, forcedStep, fromWay, recordStep, fromHop, activeStep, hintStep, undiscovered, stepsOf, decidedOn, decided}
 use Rattle.next_hop.specs.Kept.{recordRelays}
 
 module _ (r : Routing) (h : NwkHeader) (m : SendMode) (p : Policy) (store : List ℕ) (P : ResolveOutcome → Type 0)
@@ -95,10 +97,10 @@ module _ (r : Routing) (h : NwkHeader) (m : SendMode) (p : Policy) (store : List
   by-way true record-route.None hop.Unknown e = rw e six
 
   pub decided-by : (n : Neighbors) → P (decided r n h m p store)
-  unfolding decided recordStep activeStep
+  unfolding decidedOn recordStep activeStep
   decided-by n =
       let active = hopAnswer (hopAt (h .destination .0) (routesIn r)) in
       let route = wayTo (h .destination) (p .«max_source_route») (recordTable r) store .route in
       let asks = p .«is_concentrator» && not (p .«force_route_discovery») in
-      first-gives (stepsOf r n h (m .relays) p store (m .kind))
-      (by-direct (m .kind), (by-force (m .kind), (by-child (isEndDeviceChild n (h .destination)), (by-way asks route active refl, (by-hop (p .«force_route_discovery») active, (by-hint (m .kind), tt))))))
+      first-gives (stepsOf (routesIn r) (recordTable r) (neighbors.rows n) h (m .relays) p store (m .kind))
+      (by-direct (m .kind), (by-force (m .kind), (by-child (isEndDeviceChild (neighbors.rows n) (h .destination)), (by-way asks route active refl, (by-hop (p .«force_route_discovery») active, (by-hint (m .kind), tt))))))

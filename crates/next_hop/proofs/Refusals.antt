@@ -21,7 +21,7 @@ use Rattle.frame.specs.Header.{carriesLong, isSuppressed}
 use Rattle.next_hop.specs.declared.SendMode.{SendMode}
 use Rattle.next_hop.specs.declared.NextHop.{NextHop}
 use Rattle.next_hop.specs.declared.NextHop.the-variants.{Refused, Resolved, NeedDiscovery, Discard}
-use Rattle.next_hop.specs.declared.Policy.{Policy}
+use Rattle.hop_choice.specs.declared.Policy.{Policy}
 use Rattle.next_hop.specs.declared.ResolveOutcome.{ResolveOutcome}
 use Rattle.next_hop.specs.Decision.{refusedWith, decided, namesLong, resolve}
 use Rattle.next_hop.proofs.Outcomes.{decided-by}

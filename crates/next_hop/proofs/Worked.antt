@@ -11,7 +11,6 @@ use Rattle.standard.specs.Ordered.{lookup}
 use Rattle.standard.specs.Query.{someFits}
 use Rattle.standard.specs.Records.{RouteRecord, recordFor}
 use Rattle.standard.specs.Route.{nwk}
-use Rattle.flat_map.specs.Table.{formed}
 use Rattle.columns.specs.Columns.{places, ordered}
 use Rattle.route_table.specs.Codec.{routeWord, routeIn}
 use Rattle.discovery_table.specs.Codec.{discoveryWord, discoveryIn}
@@ -26,8 +25,10 @@ use Rattle.neighbor_table.specs.declared.Relationship.the-variants.{Child, Sibl
 use Rattle.neighbor_table.specs.declared.NeighborEntry.{NeighborEntry}
 use Rattle.neighbor_table.specs.Entry as neighbour
 use Rattle.neighbor_queries.specs.Filter.{fits}
-use Rattle.neighbor_table.specs.Table as neighbours
-use Rattle.waiting_table.specs.Table as waiting
+use Rattle.neighbor_columns.specs.Codec.{linkOf, linkWord, countsOf, countsWord, lowHalf, highHalf, pairWord, neighborFrom}
+use Rattle.neighbor_columns.specs.Table as neighbours
+use Rattle.waiting_columns.specs.Table as waiting
+use Rattle.ring_buffer.specs.Word.{ringOf, ringWord}
 use Rattle.relay_store.specs.Store.{relayList, agreesBy, rowsIn, flat}
 use Rattle.relay_store.specs.Packed.{recordsOf, tableFor, storeFor}
 use Rattle.route_record.specs.Answer.{wayTo}
@@ -42,12 +43,12 @@ use Rattle.frame.specs.declared.OptionalEui64.the-variants as name
 use Rattle.frame.specs.declared.OptionalByte.the-variants as byte
 use Rattle.frame.specs.declared.NwkHeader.{NwkHeader}
 use Rattle.frame.specs.Numbers.{headerNumbers}
-use Rattle.next_hop.specs.declared.HostRoute.the-variants.{NextHop, SourceRoute}
-use Rattle.next_hop.specs.declared.RouteDirective.{RouteDirective}
-use Rattle.next_hop.specs.declared.RouteDirective.the-variants.{StackDecides, Hint, Force}
-use Rattle.next_hop.specs.declared.SendKind.the-variants.{Direct, Route}
+use Rattle.hop_choice.specs.declared.HostRoute.the-variants.{NextHop, SourceRoute}
+use Rattle.hop_choice.specs.declared.RouteDirective.{RouteDirective}
+use Rattle.hop_choice.specs.declared.RouteDirective.the-variants.{StackDecides, Hint, Force}
+use Rattle.hop_choice.specs.declared.SendKind.the-variants.{Direct, Route}
 use Rattle.next_hop.specs.declared.SendMode.{SendMode}
-use Rattle.next_hop.specs.Decision.{recordStep, activeStep, decided, resolve, resolveDefault}
+use Rattle.next_hop.specs.Decision.{recordStep, activeStep, decidedOn, resolve, resolveDefault}
 use Rattle.next_hop.specs.Numbers.{resolveSaid}
 
 -- a header for address 77 that carries no source route
@@ -154,7 +155,7 @@ pub record Rows : Type 0 where
   pub unknown-hop : said (by 65535) [] Enable (sent (Hint (NextHop (nwk 21))) []) ≡ refused 6
 
 pub rows : Rows
-unfolding resolve decided recordStep activeStep headerNumbers state.wellFormed known.wellFormed formed ordered places routeWord routeIn discoveryWord discoveryIn agreesBy routes.tableOf discoveries.tableOf records.tableOf neighbours.tableOf neighbour.isBlank neighbour.isSound neighbour.quiet fits waiting.tableOf relayList lookup hopAt wayTo recordsOf rowsIn flat someFits
+unfolding resolve decidedOn recordStep activeStep headerNumbers state.wellFormed known.wellFormed ordered places routeWord routeIn discoveryWord discoveryIn agreesBy routes.tableOf discoveries.tableOf records.tableOf neighbours.tableOf neighbours.formed64 linkOf linkWord countsOf countsWord lowHalf highHalf pairWord neighborFrom ringOf ringWord neighbour.isSound fits waiting.tableOf relayList lookup hopAt wayTo recordsOf rowsIn flat someFits
 rows = record {
   needed = refl;
   needed-too = refl;

@@ -15,34 +15,40 @@ use Rattle.types.specs.declared.Nwk.{Nwk}
 use Rattle.types.specs.declared.Refusal.{Refusal}
 use Rattle.types.specs.declared.Refusal.the-variants.{UnknownNextHop, EmptySourceRoute, ListTooLong, StoreDisagrees, StateIllFormed}
 use Rattle.standard.specs.declared.RelayList.{RelayList}
+use Rattle.standard.specs.declared.RouteEntry.{RouteEntry}
 use Rattle.standard.specs.Calls.{hopAt}
 use Rattle.standard.specs.Route.{nwk}
+use Rattle.record_table.specs.Table.{RecordTable}
 use Rattle.relay_store.specs.Store.{agrees}
 use Rattle.route_calls.specs.declared.HopAnswer.{HopAnswer}
 use Rattle.route_calls.specs.declared.HopAnswer.the-variants as active
 use Rattle.route_calls.specs.Answer.{hopAnswer}
+use Rattle.route_record.specs.Answer.{wayTo}
 use Rattle.routing.specs.State.{recordTable}
 use Rattle.routing.specs.Routes.{routesIn}
 use Rattle.routing.specs.declared.Routing.{Routing}
 use Rattle.routing.specs.declared.RouteToAnswer.{RouteToAnswer}
 use Rattle.routing.specs.declared.RouteToAnswer.the-variants as way
-use Rattle.routing.specs.Records.{routeToCore}
+use Rattle.routing.specs.declared.RouteToOutcome.{RouteToOutcome}
+use Rattle.routing.specs.Records.{answerIn}
 use Rattle.routing.specs.State as routing
+use Rattle.neighbor_table.specs.declared.NeighborEntry.{NeighborEntry}
 use Rattle.neighbors.specs.declared.Neighbors.{Neighbors}
 use Rattle.neighbors.specs.State as neighbors
 use Rattle.frame.specs.declared.NwkHeader.{NwkHeader}
 use Rattle.frame.specs.Header.{isSuppressed, carriesLong, sourceRouted}
 use Rattle.relay_header.specs.Relayed.{isEndDeviceChild}
-use Rattle.next_hop.specs.declared.HostRoute.{HostRoute}
-use Rattle.next_hop.specs.declared.HostRoute.the-variants as host
-use Rattle.next_hop.specs.declared.RouteDirective.{RouteDirective}
-use Rattle.next_hop.specs.declared.RouteDirective.the-variants.{StackDecides, Hint, Force}
-use Rattle.next_hop.specs.declared.SendKind.{SendKind}
-use Rattle.next_hop.specs.declared.SendKind.the-variants.{Direct, Route}
+use Rattle.hop_choice.specs.declared.HostRoute.{HostRoute}
+use Rattle.hop_choice.specs.declared.HostRoute.the-variants as host
+use Rattle.hop_choice.specs.declared.RouteDirective.{RouteDirective}
+use Rattle.hop_choice.specs.declared.RouteDirective.the-variants.{StackDecides, Hint, Force}
+use Rattle.hop_choice.specs.declared.SendKind.{SendKind}
+use Rattle.hop_choice.specs.declared.SendKind.the-variants.{Direct, Route}
+use Rattle.hop_choice.specs.Choice.{firstOf}
 use Rattle.next_hop.specs.declared.SendMode.{SendMode}
 use Rattle.next_hop.specs.declared.NextHop.{NextHop}
 use Rattle.next_hop.specs.declared.NextHop.the-variants.{Refused, Resolved, NeedDiscovery, Discard}
-use Rattle.next_hop.specs.declared.Policy.{Policy}
+use Rattle.hop_choice.specs.declared.Policy.{Policy}
 use Rattle.next_hop.specs.declared.ResolveOutcome.{ResolveOutcome}
 
 -- a hop, with the header as it came
@@ -79,8 +85,8 @@ forcedStep h relays (Route (Hint r)) = none
 forcedStep h relays (Route (Force r)) = some (hostRouted h relays r)
 
 -- "end device child (not merely any child)"; 05-3474, section 3.6.4.3: a router delivers to its end device child itself
-abbrev pub childStep : Neighbors → NwkHeader → Option ResolveOutcome
-childStep n h = cond (isEndDeviceChild n (h .destination)) (some (hopTo h (h .destination))) none
+abbrev pub childStep : List NeighborEntry → NwkHeader → Option ResolveOutcome
+childStep near h = cond (isEndDeviceChild near (h .destination)) (some (hopTo h (h .destination))) none
 
 -- what the route query says: a hop, a source route, 6, or nothing
 abbrev pub fromWay : NwkHeader → RelayList → RouteToAnswer → Option ResolveOutcome
@@ -89,11 +95,15 @@ fromWay h relays way.NoRoute = none
 fromWay h relays (way.NextHop n) = some (hopTo h n)
 fromWay h relays way.SourceRoute = some (bySourceRoute h relays)
 
+-- the route query on routes and records: that of a state, `routeToCore`, is this of its own
+abbrev pub routeOn : List RouteEntry → RecordTable → Nwk → ℕ → List ℕ → RouteToOutcome
+routeOn routes t d limit store = record { answer = answerIn routes d (wayTo d limit t store .route); relays = wayTo d limit t store .relays }
+
 -- "concentrator's route to D"; 05-3474, section 3.6.4.3.1; "Force-discovery skips the two table steps only."
-unfoldable pub recordStep : Routing → NwkHeader → Policy → List ℕ → Option ResolveOutcome
-recordStep r h p store =
+unfoldable pub recordStep : List RouteEntry → RecordTable → NwkHeader → Policy → List ℕ → Option ResolveOutcome
+recordStep routes t h p store =
     cond (p .«is_concentrator» && not (p .«force_route_discovery»))
-    (fromWay h (routeToCore r (h .destination) (p .«max_source_route») store .relays) (routeToCore r (h .destination) (p .«max_source_route») store .answer))
+    (fromWay h (routeOn routes t (h .destination) (p .«max_source_route») store .relays) (routeOn routes t (h .destination) (p .«max_source_route») store .answer))
     none
 
 -- what the look-up of an Active route says: a hop, 6 for 0xFFFF, or nothing
@@ -103,8 +113,8 @@ fromHop h (active.Hop n) = some (hopTo h n)
 fromHop h active.Unknown = some (refusedWith h UnknownNextHop)
 
 -- "Active route"; 05-3474, section 3.6.4.3: the next hop of the routing table entry; "Force-discovery skips the two table steps only."
-unfoldable pub activeStep : Routing → NwkHeader → Policy → Option ResolveOutcome
-activeStep r h p = cond (p .«force_route_discovery») none (fromHop h (hopAnswer (hopAt (h .destination .0) (routesIn r))))
+unfoldable pub activeStep : List RouteEntry → NwkHeader → Policy → Option ResolveOutcome
+activeStep routes h p = cond (p .«force_route_discovery») none (fromHop h (hopAnswer (hopAt (h .destination .0) routes)))
 
 -- "hint": a wish of the host
 abbrev pub hintStep : NwkHeader → RelayList → SendKind → Option ResolveOutcome
@@ -117,25 +127,24 @@ hintStep h relays (Route (Force r)) = none
 abbrev pub undiscovered : NwkHeader → ResolveOutcome
 undiscovered h = record { answer = cond (isSuppressed (h .«frame_control» .«discover_route»)) Discard NeedDiscovery; header = h }
 
--- the first step that gives an answer, or what is left
-abbrev pub firstOf : List (Option ResolveOutcome) → ResolveOutcome → ResolveOutcome
-firstOf [] last = last
-firstOf (none ∷ steps) last = firstOf steps last
-firstOf (some x ∷ steps) last = x
-
--- document 01's order
-abbrev pub stepsOf : Routing → Neighbors → NwkHeader → RelayList → Policy → List ℕ → SendKind → List (Option ResolveOutcome)
-stepsOf r n h relays p store kind =
+-- document 01's order, on the rows of the tables
+abbrev pub stepsOf : List RouteEntry → RecordTable → List NeighborEntry → NwkHeader → RelayList → Policy → List ℕ → SendKind → List (Option ResolveOutcome)
+stepsOf routes t near h relays p store kind =
     directStep h kind
     ∷ forcedStep h relays kind
-    ∷ childStep n h
-    ∷ recordStep r h p store
-    ∷ activeStep r h p
+    ∷ childStep near h
+    ∷ recordStep routes t h p store
+    ∷ activeStep routes h p
     ∷ hintStep h relays kind
     ∷ []
 
-unfoldable pub decided : Routing → Neighbors → NwkHeader → SendMode → Policy → List ℕ → ResolveOutcome
-decided r n h m p store = firstOf (stepsOf r n h (m .relays) p store (m .kind)) (undiscovered h)
+-- the first step that gives an answer, or what is left
+unfoldable pub decidedOn : List RouteEntry → RecordTable → List NeighborEntry → NwkHeader → SendMode → Policy → List ℕ → ResolveOutcome
+decidedOn routes t near h m p store = firstOf (stepsOf routes t near h (m .relays) p store (m .kind)) (undiscovered h)
+
+-- and of two states
+abbrev pub decided : Routing → Neighbors → NwkHeader → SendMode → Policy → List ℕ → ResolveOutcome
+decided r n h m p store = decidedOn (routesIn r) (recordTable r) (neighbors.rows n) h m p store
 
 -- "a host source route .. at most 32 relays, applied or not"
 abbrev pub hostLong : RelayList → HostRoute → Bool

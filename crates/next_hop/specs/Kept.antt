@@ -10,7 +10,7 @@ use Rattle.routing.specs.Records.{routeToCore}
 use Rattle.frame.specs.declared.NwkHeader.{NwkHeader}
 use Rattle.next_hop.specs.declared.SendMode.{SendMode}
 use Rattle.next_hop.specs.declared.NextHop.{NextHop}
-use Rattle.next_hop.specs.declared.Policy.{Policy}
+use Rattle.hop_choice.specs.declared.Policy.{Policy}
 use Rattle.next_hop.specs.declared.ResolveOutcome.{ResolveOutcome}
 use Rattle.next_hop.specs.Decision.{bySourceRoute}
 

@@ -1,4 +1,5 @@
 pub mod Decision
-pub mod Tails
+pub mod Made
+pub mod Lent
 pub mod Numbers
 pub mod Kept

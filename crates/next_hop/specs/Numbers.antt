@@ -3,8 +3,8 @@
 -- Assumes nothing.
 use mathlib.Core.List.{_∷_}
 use Rattle.numbers.specs.Said.{Said, ok, refusedBy, flagNumber}
-use Rattle.neighbors.specs.declared.Truth.{Truth}
-use Rattle.neighbors.specs.declared.Truth.the-variants as truth
+use Rattle.neighbor_queries.specs.declared.Truth.{Truth}
+use Rattle.neighbor_queries.specs.declared.Truth.the-variants as truth
 use Rattle.frame.specs.declared.NwkHeader.{NwkHeader}
 use Rattle.frame.specs.Numbers.{headerNumbers}
 use Rattle.relay_header.specs.declared.ClearOutcome.{ClearOutcome}

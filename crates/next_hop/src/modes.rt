@@ -1,8 +1,8 @@
 // Whether the list of a host source route is too long.
-use crate::HostRoute;
-use crate::RouteDirective;
-use crate::SendKind;
 use crate::SendMode;
+use hop_choice::HostRoute;
+use hop_choice::RouteDirective;
+use hop_choice::SendKind;
 use standard::RelayList;
 ghost use mathlib.Core.Path.{_≡_};
 ghost use Rattle.next_hop.specs.Decision.{hostLong, directiveLong, namesLong};

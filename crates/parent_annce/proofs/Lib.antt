@@ -1,2 +1,2 @@
-pub mod Steps
-pub mod Kept
+pub mod Rows
+pub mod Settles

@@ -1,2 +1,2 @@
 pub mod Settle
-pub mod Calls
+pub mod Rules

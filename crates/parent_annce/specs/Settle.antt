@@ -3,18 +3,13 @@
 -- Assumes nothing.
 use mathlib.Core.Bool.{Bool, cond, _&&_}
 use mathlib.Core.List.{List, [], _∷_, _++_}
-use lib.ListN.{take}
 use Rattle.types.specs.declared.Eui64.{Eui64}
 use Rattle.standard.specs.Ordered.{lookup, remove}
 use Rattle.neighbor_table.specs.declared.NeighborEntry.{NeighborEntry}
 use Rattle.neighbor_table.specs.declared.NeighborLookup.{NeighborLookup}
-use Rattle.neighbor_table.specs.declared.NeighborTable.{NeighborTable}
 use Rattle.neighbor_table.specs.Entry.{neighborKey, isEndDevice}
-use Rattle.neighbor_table.specs.Table.{rowsOf, tableOf, looked}
+use Rattle.neighbor_table.specs.Lookup.{looked}
 use Rattle.neighbor_queries.specs.declared.Child.{Child}
-use Rattle.neighbor_queries.specs.declared.Eui64List.{Eui64List}
-use Rattle.neighbor_queries.specs.Lists.{euiList, childList, oneMoreEui, oneMoreChild}
-use Rattle.parent_annce.specs.declared.Settled.{Settled}
 
 -- how far the list has been gone through
 pub record Settling : Type 0 where
@@ -50,27 +45,3 @@ settleAll confirm (a ∷ rest) x = settleAll confirm rest (settleOne confirm a x
 
 abbrev pub start : List NeighborEntry → Settling
 start xs = record { rows = xs; claimed = []; removed = [] }
-
--- by value
-abbrev pub packed : Settling → Settled
-packed x = record { table = tableOf (x .rows); claimed = euiList (x .claimed); removed = childList (x .removed) }
-
-unfoldable pub settled : Bool → Eui64List → NeighborTable → Settled
-settled confirm list t = packed (settleAll confirm (take (list .count) (list .addresses)) (start (rowsOf t)))
-
--- the same step on the arrays
-abbrev pub claimedIn : Eui64 → Settled → Settled
-claimedIn eui64 s = record { table = s .table; claimed = oneMoreEui (s .claimed) eui64; removed = s .removed }
-
-abbrev pub droppedIn : Eui64 → NeighborLookup → Settled → Settled
-droppedIn eui64 l s = record {
-  table = tableOf (remove neighborKey (eui64 .0) (rowsOf (s .table)));
-  claimed = s .claimed;
-  removed = oneMoreChild (s .removed) (record { eui64 = eui64; «network_address» = l .entry .«network_address» });
-}
-
-abbrev pub steppedIn : Bool → Eui64 → NeighborLookup → Settled → Settled
-steppedIn confirm eui64 l s = cond (isHere l) (cond (confirm && l .entry .«keepalive_received») (claimedIn eui64 s) (droppedIn eui64 l s)) s
-
-abbrev pub stepped : Bool → Eui64 → Settled → Settled
-stepped confirm eui64 s = steppedIn confirm eui64 (looked (lookup neighborKey (eui64 .0) (rowsOf (s .table)))) s

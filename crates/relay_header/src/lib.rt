@@ -1,28 +1,19 @@
 // What a router does to the header of a frame that it relays for one of its end device children.
 use frame::NwkHeader;
 use neighbor_queries::Filter;
+use neighbor_queries::Truth;
 use neighbors::Neighbors;
-use neighbors::Truth;
-use types::Nwk;
 use types::Refusal;
+ghost use mathlib.Core.List.{[], _∷_};
 ghost use mathlib.Core.Path.{_≡_};
-ghost use Rattle.neighbors.specs.State.{WellFormed};
-ghost use Rattle.relay_header.specs.Relayed.{isEndDeviceChild, told, refused, clearedCore, cleared};
+ghost use Rattle.neighbor_columns.specs.Lent.{Asked};
+ghost use Rattle.neighbor_queries_lent.specs.Read.{InUse, lentWords};
+ghost use Rattle.relay_header.specs.Relayed.{told, refused, clearedOn, cleared};
 
 // Whether the bit was cleared, and the header after the call.
 pub struct ClearOutcome {
     pub answer: Truth,
     pub header: NwkHeader,
-}
-
-// Whether an end device child has a network address.
-pub fn is_end_device_child(neighbors: Neighbors, nwk: Nwk) -> bool
-    requires { ⌜ WellFormed neighbors ⌝ }
-    ensures { λ r. ⌜ r ≡ isEndDeviceChild neighbors nwk ⌝ }
-{
-    let table = neighbors.table;
-    let found = neighbor_queries::first_fitting(table, Filter::EndDeviceChildAt(nwk));
-    found.found
 }
 
 // A yes or no beside a header.
@@ -45,21 +36,21 @@ fn refuse(refusal: Refusal, header: NwkHeader) -> ClearOutcome
     }
 }
 
-// `clear_end_device_initiator_for_relay` on a state that is well formed.
-pub fn clear_end_device_initiator_for_relay_core(
-    neighbors: Neighbors,
-    header: NwkHeader,
-) -> ClearOutcome
-    requires { ⌜ WellFormed neighbors ⌝ }
-    ensures { λ r. ⌜ r ≡ clearedCore neighbors header ⌝ }
+// The rule on two columns that are lent, network addresses and link words. Where the bit is not set, no neighbour is looked for.
+pub fn clear_initiator(nwks: &[u16], links: &[u64], count: usize, header: NwkHeader) -> ClearOutcome
+    requires { ⌜ InUse count (now nwks ∷ now links ∷ []) ⌝ }
+    ensures { λ r. ⌜ Asked (lentWords (now (nwks .entry)) (now (links .entry)) count) (λ xs. r ≡ clearedOn xs header) ⌝ }
 {
     let control = header.frame_control;
-    let source = header.source;
-    if control.end_device_initiator & is_end_device_child(neighbors, source) {
-        tell(true, header.with_initiator_cleared())
-    } else {
-        tell(false, header)
+    if !control.end_device_initiator {
+        return tell(false, header);
     }
+    let source = header.source;
+    let child = Filter::EndDeviceChildAt(source);
+    if neighbor_queries_lent::any_fitting(nwks, links, count, child) {
+        return tell(true, header.with_initiator_cleared());
+    }
+    tell(false, header)
 }
 
 // The end device initiator bit of a frame to be relayed is cleared if an end device child of ours sent it.
@@ -72,5 +63,7 @@ pub fn clear_end_device_initiator_for_relay(neighbors: Neighbors, header: NwkHea
     if header.carries_long() {
         return refuse(Refusal::ListTooLong, header);
     }
-    clear_end_device_initiator_for_relay_core(neighbors, header)
+    let nwks = neighbors.nwks;
+    let links = neighbors.links;
+    clear_initiator(&nwks, &links, neighbors.count, header)
 }

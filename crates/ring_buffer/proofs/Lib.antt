@@ -2,5 +2,4 @@ pub mod Sorting
 pub mod Zeros
 pub mod Shapes
 pub mod Ring
-pub mod Fresh
 pub mod Word

@@ -51,7 +51,3 @@ wellFormed r =
     && (not (ltb (r .len) 3) || eqb (r .next) (r .len))
     && (not (eqb (r .len) 3) || ltb (r .next) 3)
     && allZero (drop (r .len) (r .values))
-
--- whether a ring is the fresh one, computed
-abbrev pub isFresh : RingBuffer → Bool
-isFresh r = eqb (r .len) 0 && wellFormed r

@@ -5,7 +5,7 @@ ghost use lib.Dec.{eqb};
 ghost use lib.ListN.{drop};
 ghost use Rattle.standard.specs.Median.{Ordered, medianOf};
 ghost use Rattle.standard.specs.Tells.{Tells};
-ghost use Rattle.ring_buffer.specs.Ring.{fresh, afterPush, allZero, WellFormed, wellFormed, isFresh};
+ghost use Rattle.ring_buffer.specs.Ring.{fresh, afterPush, allZero, WellFormed, wellFormed};
 ghost use Rattle.ring_buffer.specs.Word.{ringOf, ringWord, wordEnd, InRange};
 ghost use Rattle.ring_buffer.specs.Exchange.{exchanged};
 
@@ -83,13 +83,6 @@ impl RingBuffer {
         } else {
             false
         }
-    }
-
-    // Whether the ring is the fresh one: well formed, with no sample.
-    pub fn is_fresh(self) -> bool
-        ensures { λ r. ⌜ r ≡ isFresh self ⌝ }
-    {
-        (self.len == 0) & self.well_formed()
     }
 
     // The ring in a word, from its lowest 40 bits.

@@ -1,7 +1,6 @@
 // The benchmark's calls for Rust: a state of a size is filled, and every row of the inputs is a call on it.
 // Each hands back the sum of the answers, of the exported form or of the core form.
 pub mod decisions;
-pub mod links;
 
 #[no_mangle]
 pub extern "C" fn warpteasel_speed_request(size: u16, exported: bool, inputs: &[u64]) -> u64 {
@@ -69,11 +68,11 @@ pub extern "C" fn warpteasel_speed_route_query(
 
 #[no_mangle]
 pub extern "C" fn warpteasel_speed_link_status(size: u16, exported: bool, inputs: &[u64]) -> u64 {
-    let s = links::filled_links(size);
+    let s = speed_links::filled_links(size);
     if exported {
-        links::links(s, inputs)
+        speed_links::links(s, inputs)
     } else {
-        links::links_core(s, inputs)
+        speed_links::links_core(s, inputs)
     }
 }
 

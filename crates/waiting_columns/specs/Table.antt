@@ -2,9 +2,8 @@
 -- Document 01, "Capacities and clock": "waiting samples 64"; "Well formed". That a key is the entry's own field holds by construction.
 -- Assumes nothing.
 use Prim.Native.Nat.{ℕ, _<_}
-use mathlib.Core.Bool.{Bool, true, false, _&&_}
+use mathlib.Core.Bool.{Bool, true, _&&_}
 use mathlib.Core.List.{List, [], _∷_, map}
-use mathlib.Core.Option.{Option, none, some}
 use mathlib.Core.Path.{_≡_}
 use lib.ListN.{length, getD}
 use Rattle.flat_map.specs.Rows.{pad}
@@ -14,7 +13,6 @@ use Rattle.columns.specs.Table.{rowsIn}
 use Rattle.ring_buffer.specs.Ring as ring
 use Rattle.ring_buffer.specs.Word.{ringOf, ringWord, wordEnd}
 use Rattle.waiting_table.specs.declared.WaitingEntry.{WaitingEntry}
-use Rattle.waiting_table.specs.declared.WaitingLookup.{WaitingLookup}
 use Rattle.waiting_table.specs.Entry.{waitingKey, blankWaiting, isSound}
 use Rattle.waiting_columns.specs.Codec.{waitingOf, InRange}
 
@@ -78,8 +76,3 @@ pub record Keeps (t : WaitingTable) (xs : List WaitingEntry) : Type 0 where
 pub record Holds (t : WaitingTable) (xs : List WaitingEntry) : Type 0 where
   pub formed : WellFormed t
   pub rows : rowsOf t ≡ xs
-
--- a look-up's answer
-abbrev pub looked : Option WaitingEntry → WaitingLookup
-looked none = record { found = false; entry = blankWaiting }
-looked (some e) = record { found = true; entry = e }

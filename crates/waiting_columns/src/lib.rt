@@ -17,7 +17,8 @@ ghost use Rattle.standard.specs.Ordered.{lookup, put, remove, popFirst, countWi
 ghost use Rattle.standard.specs.Tells.{Tells};
 ghost use Rattle.waiting_columns.specs.Codec.{waitingIn};
 ghost use Rattle.waiting_table.specs.Entry.{waitingKey};
-ghost use Rattle.waiting_columns.specs.Table.{inColumns, Formed64, formed64, RingsSound, wellFormed, rowsOf, Keeps, looked};
+ghost use Rattle.waiting_columns.specs.Table.{inColumns, Formed64, formed64, RingsSound, wellFormed, rowsOf, Keeps};
+ghost use Rattle.waiting_table.specs.Lookup.{looked};
 
 // Whether columns make a table, whatever the samples say.
 pub fn formed(keys: &[u16], samples: &[u64], count: usize) -> bool

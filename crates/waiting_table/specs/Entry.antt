@@ -2,8 +2,7 @@
 -- Document 01, "Capacities and clock": "waiting samples 64 (from 003)".
 -- Assumes nothing.
 use Prim.Native.Nat.{ℕ}
-use mathlib.Core.Bool.{Bool, _&&_}
-use lib.Dec.{eqb}
+use mathlib.Core.Bool.{Bool}
 use Rattle.ring_buffer.specs.Ring as ring
 use Rattle.waiting_table.specs.declared.WaitingEntry.{WaitingEntry}
 
@@ -14,10 +13,6 @@ waitingKey e = e .«network_address» .0
 -- what stands in a place that is not in use
 abbrev pub blankWaiting : WaitingEntry
 blankWaiting = record { «network_address» = record { 0 = 0 }; lqas = ring.fresh }
-
--- whether an entry is the blank one, computed
-abbrev pub isBlank : WaitingEntry → Bool
-isBlank e = eqb (e .«network_address» .0) 0 && ring.isFresh (e .lqas)
 
 -- samples that are well formed
 abbrev pub isSound : WaitingEntry → Bool

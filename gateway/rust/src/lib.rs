@@ -16,7 +16,7 @@ pub use refusal::Refusal;
 use values::{push_addresses, Values};
 
 /// How many numbers an image has.
-pub const IMAGE: usize = 4714;
+pub const IMAGE: usize = 3242;
 
 /// How many numbers an answer needs.
 const ANSWER: usize = 258;

@@ -52,8 +52,9 @@ fn a_damaged_image_is_refused_and_stays() {
         (199, 1 << 32), // a discovery's key
         (296, 65536),   // a record's key and its length
         (360, 256),
-        (491, 3),      // a neighbour's device type
-        (2666, 65536), // the relay store
+        (489, 65536), // a neighbour's address, and that of a sender whose sample waits
+        (1066, 65536),
+        (1194, 65536), // the relay store
     ];
     for (place, number) in damage {
         let mut image = with_route().image().to_vec();

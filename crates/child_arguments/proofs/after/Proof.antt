@@ -2,7 +2,7 @@
 use borrow.Author.Needs.{needs}
 use mathlib.Core.Path.{sym, _∙_}
 use Rattle.child_arguments.specs.Arguments.{past}
-use Rattle.neighbors.proofs.Checked.{picks-first, picks-second}
+use Rattle.neighbor_queries.proofs.Checked.{picks-first, picks-second}
 use Rattle.child_arguments.proofs.after.Statement.{statement}
 use Rattle.child_arguments.proofs.after.Tie as tie
 

@@ -2,7 +2,7 @@
 use borrow.Author.Needs.{needs}
 use mathlib.Core.Path.{sym, ap, _∙_}
 use Rattle.children.specs.declared.MaybeNwk.the-variants.{Given}
-use Rattle.neighbors.proofs.Checked.{picks-first, picks-second}
+use Rattle.neighbor_queries.proofs.Checked.{picks-first, picks-second}
 use Rattle.child_arguments.proofs.maybe_nwk.Statement.{statement}
 use Rattle.child_arguments.proofs.maybe_nwk.Tie as tie
 

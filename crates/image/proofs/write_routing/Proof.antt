@@ -2,12 +2,13 @@
 use Prim.Native.Nat.{ℕ}
 use mathlib.Core.List.{List}
 use mathlib.Core.Path.{refl, ap, _∙_}
+use native.Mathlib.Omega.{arith}
 use denote.Ref.{now}
 use lib.Seq.{sets}
 use Rattle.cells.specs.Layout.{routesPlace, discoveriesPlace, recordsPlace}
+use Rattle.cells.proofs.Writing.{put-four}
 use Rattle.image.specs.Image.{headNumbers, routesNumbers, discoveriesNumbers, recordsNumbers, routingNumbers}
 use Rattle.image.proofs.Lengths.{Long, routes-long, discoveries-long}
-use Rattle.image.proofs.Parts.{put-parts}
 use borrow.Author.Needs.{needs}
 use Rattle.image.proofs.write_routing.Statement.{statement}
 use Rattle.image.proofs.write_routing.Tie as tie
@@ -52,7 +53,7 @@ returns c =
     let two = c .before .before .before .before .before .before .write-discoveries .ensures ∙ ap (λ (m : List ℕ). sets m discoveriesPlace (discoveriesNumbers r)) one in
     c .before .before .write-records .ensures
     ∙ ap (λ (m : List ℕ). sets m recordsPlace (recordsNumbers r)) two
-    ∙ put-parts (now (s .args .image)) (headNumbers r) (routesNumbers r) (discoveriesNumbers r) (recordsNumbers r) refl (routes-long r (long s)) (discoveries-long r (long s))
+    ∙ put-four (now (s .args .image)) 0 routesPlace discoveriesPlace recordsPlace (headNumbers r) (routesNumbers r) (discoveriesNumbers r) (recordsNumbers r) refl (omega (arith, routes-long r (long s))) (omega (arith, discoveries-long r (long s)))
 
 pub write-routing-spec : {M : Type 1} → statement M
 write-routing-spec =

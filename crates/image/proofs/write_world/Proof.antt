@@ -14,10 +14,11 @@ use borrow.Author.Needs.{needs}
 use Rattle.image.proofs.write_world.Statement.{statement}
 use Rattle.image.proofs.write_world.Tie as tie
 
--- the arrays are as long as their types say
+-- the arrays are as long as their types say; the world's facts are many, so those of the last columns are named
 long : (c : tie.Start) → length (routingNumbers (c .args .world .routing)) ≡ neighborsPlace
 long c =
     let r = c .args .world .routing in
+    let last = c .good .0 .1 .1 .0 .1 .1 .1 .1 .1 .1 .1 .1 .1 in
     routing-long r (search needs)
 
 write-routing-requires : tie.Need-write-routing-requires

@@ -2,7 +2,7 @@
 -- Assumes nothing.
 use borrow.Author.Needs.{needs}
 use mathlib.Core.Path.{sym, _∙_}
-use Rattle.neighbors.proofs.Checked.{picks-first}
+use Rattle.neighbor_queries.proofs.Checked.{picks-first}
 use Rattle.link_status.proofs.add_where.Statement.{statement}
 use Rattle.link_status.proofs.add_where.Tie as tie
 

@@ -1,6 +1,6 @@
 -- By the test.
 use mathlib.Core.Path.{sym}
-use Rattle.neighbors.proofs.Checked.{picks-first, picks-second}
+use Rattle.neighbor_queries.proofs.Checked.{picks-first, picks-second}
 use Rattle.link_status_lent.proofs.lost_link.Statement.{statement}
 use Rattle.link_status_lent.proofs.lost_link.Tie as tie
 

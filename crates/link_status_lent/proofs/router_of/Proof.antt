@@ -2,12 +2,8 @@
 use Prim.Native.Nat.{_+_}
 use mathlib.Core.Path.{ap, _∙_}
 use Rattle.ring_buffer.specs.Ring.{afterPush}
-use Rattle.standard.specs.Ordered.{lookup}
-use Rattle.waiting_table.specs.Entry.{waitingKey}
-use Rattle.waiting_columns.specs.Table as waiting
 use Rattle.waiting_table.specs.declared.WaitingLookup.{WaitingLookup}
 use Rattle.link_status.specs.Digest.{forever, newRouter}
-use Rattle.link_status_lent.proofs.Rows.{waiting-looked}
 use borrow.Author.Needs.{needs}
 use Rattle.link_status_lent.proofs.router_of.Statement.{statement}
 use Rattle.link_status_lent.proofs.router_of.Tie as tie
@@ -29,7 +25,7 @@ returns c =
     let a = c .before .before .before .before .before .before .args in
     c .new-router .ensures
     ∙ ap (newRouter (a .name) (a .nwk) (a .now-ms + forever) (a .now-ms))
-    (c .before .push .ensures ∙ ap (λ (l : WaitingLookup). afterPush (l .entry .lqas) (a .lqi)) (c .before .before .before .find .ensures ∙ waiting-looked (lookup waitingKey (a .nwk .0) (waiting.rowsOf (waiting.inColumns (a .senders .now) (a .samples .now) (a .waiting))))))
+    (c .before .push .ensures ∙ ap (λ (l : WaitingLookup). afterPush (l .entry .lqas) (a .lqi)) (c .before .before .before .find .ensures))
 
 pub router-of-spec : {M : Type 1} → statement M
 router-of-spec =

@@ -2,7 +2,7 @@
 use borrow.Author.Needs.{needs}
 use mathlib.Core.Path.{sym, ap, _∙_}
 use Rattle.neighbor_answers.specs.Answers.{capabilitySaid}
-use Rattle.neighbors.specs.declared.Capability.{Capability}
+use Rattle.neighbor_queries.specs.declared.Capability.{Capability}
 use Rattle.numbers.specs.Said.{spoken}
 use Rattle.neighbor_answers.proofs.capability_answer.Statement.{statement}
 use Rattle.neighbor_answers.proofs.capability_answer.Tie as tie

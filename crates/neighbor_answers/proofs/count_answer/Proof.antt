@@ -2,7 +2,7 @@
 use borrow.Author.Needs.{needs}
 use mathlib.Core.Path.{sym, ap, _∙_}
 use Rattle.neighbor_answers.specs.Answers.{countSaid}
-use Rattle.neighbors.specs.declared.Count.{Count}
+use Rattle.neighbor_queries.specs.declared.Count.{Count}
 use Rattle.numbers.specs.Said.{spoken}
 use Rattle.neighbor_answers.proofs.count_answer.Statement.{statement}
 use Rattle.neighbor_answers.proofs.count_answer.Tie as tie

@@ -2,7 +2,7 @@
 use borrow.Author.Needs.{needs}
 use mathlib.Core.Path.{sym, ap, _∙_}
 use Rattle.neighbor_answers.specs.Answers.{eui64Said}
-use Rattle.neighbors.specs.declared.Eui64Answer.{Eui64Answer}
+use Rattle.neighbor_queries.specs.declared.Eui64Answer.{Eui64Answer}
 use Rattle.numbers.specs.Said.{spoken}
 use Rattle.neighbor_answers.proofs.eui64_answer.Statement.{statement}
 use Rattle.neighbor_answers.proofs.eui64_answer.Tie as tie

@@ -2,7 +2,7 @@
 use borrow.Author.Needs.{needs}
 use mathlib.Core.Path.{sym, ap, _∙_}
 use Rattle.neighbor_answers.specs.Answers.{foundBy}
-use Rattle.neighbors.specs.declared.Presence.{Presence}
+use Rattle.neighbor_queries.specs.declared.Presence.{Presence}
 use Rattle.neighbor_answers.proofs.found.Statement.{statement}
 use Rattle.neighbor_answers.proofs.found.Tie as tie
 

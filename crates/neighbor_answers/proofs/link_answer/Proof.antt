@@ -2,7 +2,7 @@
 use borrow.Author.Needs.{needs}
 use mathlib.Core.Path.{sym, ap, _∙_}
 use Rattle.neighbor_answers.specs.Answers.{linkSaid}
-use Rattle.neighbors.specs.declared.LinkAnswer.{LinkAnswer}
+use Rattle.neighbor_queries.specs.declared.LinkAnswer.{LinkAnswer}
 use Rattle.numbers.specs.Said.{spoken}
 use Rattle.neighbor_answers.proofs.link_answer.Statement.{statement}
 use Rattle.neighbor_answers.proofs.link_answer.Tie as tie

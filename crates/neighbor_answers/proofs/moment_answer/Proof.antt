@@ -2,7 +2,7 @@
 use borrow.Author.Needs.{needs}
 use mathlib.Core.Path.{sym, ap, _∙_}
 use Rattle.neighbor_answers.specs.Answers.{momentSaid}
-use Rattle.neighbors.specs.declared.MomentAnswer.{MomentAnswer}
+use Rattle.neighbor_queries.specs.declared.MomentAnswer.{MomentAnswer}
 use Rattle.numbers.specs.Said.{spoken}
 use Rattle.neighbor_answers.proofs.moment_answer.Statement.{statement}
 use Rattle.neighbor_answers.proofs.moment_answer.Tie as tie

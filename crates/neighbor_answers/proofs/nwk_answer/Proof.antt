@@ -2,7 +2,7 @@
 use borrow.Author.Needs.{needs}
 use mathlib.Core.Path.{sym, ap, _∙_}
 use Rattle.neighbor_answers.specs.Answers.{nwkSaid}
-use Rattle.neighbors.specs.declared.NwkAnswer.{NwkAnswer}
+use Rattle.neighbor_queries.specs.declared.NwkAnswer.{NwkAnswer}
 use Rattle.numbers.specs.Said.{spoken}
 use Rattle.neighbor_answers.proofs.nwk_answer.Statement.{statement}
 use Rattle.neighbor_answers.proofs.nwk_answer.Tie as tie

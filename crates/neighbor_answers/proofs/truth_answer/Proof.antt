@@ -4,7 +4,7 @@ use borrow.Author.Needs.{needs}
 use mathlib.Core.List.{[], _∷_}
 use mathlib.Core.Path.{sym, ap, _∙_}
 use Rattle.neighbor_answers.specs.Answers.{truthSaid}
-use Rattle.neighbors.specs.declared.Truth.{Truth}
+use Rattle.neighbor_queries.specs.declared.Truth.{Truth}
 use Rattle.numbers.specs.Said.{ok, spoken}
 use Rattle.neighbor_answers.proofs.truth_answer.Statement.{statement}
 use Rattle.neighbor_answers.proofs.truth_answer.Tie as tie

@@ -2,7 +2,8 @@
 use native.Mathlib.Omega.{arith}
 use mathlib.Core.Option.{some}
 use mathlib.Core.Path.{_≡_, sym, ap, _∙_}
-use Rattle.neighbor_columns.specs.Table.{inColumns, looked}
+use Rattle.neighbor_columns.specs.Table.{inColumns}
+use Rattle.neighbor_table.specs.Lookup.{looked}
 use Rattle.neighbor_columns.proofs.Rows.{found-row, missing-row, place-within, in-places}
 use borrow.Author.Needs.{needs}
 use Rattle.neighbor_columns.proofs.find.Statement.{statement}

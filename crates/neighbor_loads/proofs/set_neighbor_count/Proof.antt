@@ -1,4 +1,5 @@
 -- The count is read and set.
+-- Assumes nothing.
 use mathlib.Core.Path.{_∙_}
 use Rattle.neighbor_loads.specs.Loads.{setNeighborCount}
 use borrow.Author.Needs.{needs}
@@ -8,15 +9,12 @@ use Rattle.neighbor_loads.proofs.set_neighbor_count.Tie as tie
 at-requires : tie.Need-at-requires
 at-requires c κs = search needs
 
-with-neighbor-table-requires : tie.Need-with-neighbor-table-requires
-with-neighbor-table-requires c κs = search needs
-
 load-requires : tie.Need-load-requires
 load-requires c κs = search needs
 
 returns : tie.Need-returns
 unfolding setNeighborCount
-returns c = c .load .ensures ∙ rw (c .before .with-neighbor-table .ensures, c .before .before .before .at .ensures)
+returns c = c .load .ensures ∙ rw (c .before .at .ensures)
 
 pub set-neighbor-count-spec : {M : Type 1} → statement M
-set-neighbor-count-spec = tie.close (tie.spec at-requires with-neighbor-table-requires load-requires returns)
+set-neighbor-count-spec = tie.close (tie.spec at-requires load-requires returns)

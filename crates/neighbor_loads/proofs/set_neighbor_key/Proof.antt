@@ -1,5 +1,5 @@
 -- A place past the last is told; else the key is set.
-use mathlib.Core.Path.{_∙_}
+-- Assumes nothing.
 use borrow.Author.Tests.{le-leb, lt-leb}
 use Rattle.neighbor_loads.specs.Loads.{setNeighborKey}
 use borrow.Author.Needs.{needs}
@@ -19,21 +19,28 @@ returns : tie.Need-returns
 unfolding setNeighborKey
 returns c = rw (← c .before .before .before .at .ensures, le-leb 64 (c .before .before .before .at .result) (c .before .if1 .taken)) (c .no-call .ensures)
 
-mul-t : tie.Need-mul-t
-mul-t c = search needs
+mul-keys : tie.Need-mul-keys
+mul-keys c = search needs
 
-element-write-t : tie.Need-element-write-t
-element-write-t c = search needs
-
-with-neighbor-table-requires : tie.Need-with-neighbor-table-requires
-with-neighbor-table-requires c κs = search needs
+array-write-keys : tie.Need-array-write-keys
+array-write-keys c = search needs
 
 load-requires : tie.Need-load-requires
 load-requires c κs = search needs
 
 returns-2 : tie.Need-returns-2
 unfolding setNeighborKey
-returns-2 c = rw (← c .before .before .before .before .before .at .ensures, ← c .before .before .before .before .at2 .ensures, lt-leb 64 (c .before .before .before .before .before .at .result) (c .before .before .before .if1 .left)) (c .load .ensures ∙ rw (c .before .with-neighbor-table .ensures))
+returns-2 c = rw (← c .before .before .before .before .at .ensures, ← c .before .before .before .at2 .ensures, lt-leb 64 (c .before .before .before .before .at .result) (c .before .before .if1 .left)) (c .load .ensures)
 
 pub set-neighbor-key-spec : {M : Type 1} → statement M
-set-neighbor-key-spec = tie.close (tie.spec at-requires at-requires-2 no-call-requires returns mul-t element-write-t with-neighbor-table-requires load-requires returns-2)
+set-neighbor-key-spec =
+    tie.close
+    (tie.spec
+    at-requires
+    at-requires-2
+    no-call-requires
+    returns
+    mul-keys
+    array-write-keys
+    load-requires
+    returns-2)

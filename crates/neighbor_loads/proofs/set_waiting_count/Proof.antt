@@ -1,4 +1,5 @@
 -- The count is read and set.
+-- Assumes nothing.
 use mathlib.Core.Path.{_∙_}
 use Rattle.neighbor_loads.specs.Loads.{setWaitingCount}
 use borrow.Author.Needs.{needs}
@@ -8,15 +9,12 @@ use Rattle.neighbor_loads.proofs.set_waiting_count.Tie as tie
 at-requires : tie.Need-at-requires
 at-requires c κs = search needs
 
-with-waiting-table-requires : tie.Need-with-waiting-table-requires
-with-waiting-table-requires c κs = search needs
-
 load-requires : tie.Need-load-requires
 load-requires c κs = search needs
 
 returns : tie.Need-returns
 unfolding setWaitingCount
-returns c = c .load .ensures ∙ rw (c .before .with-waiting-table .ensures, c .before .before .before .at .ensures)
+returns c = c .load .ensures ∙ rw (c .before .at .ensures)
 
 pub set-waiting-count-spec : {M : Type 1} → statement M
-set-waiting-count-spec = tie.close (tie.spec at-requires with-waiting-table-requires load-requires returns)
+set-waiting-count-spec = tie.close (tie.spec at-requires load-requires returns)

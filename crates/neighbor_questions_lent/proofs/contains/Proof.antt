@@ -3,7 +3,7 @@ use native.Mathlib.Omega.{arith}
 use mathlib.Core.Option.{Option}
 use mathlib.Core.Path.{sym, ap, _∙_}
 use Rattle.neighbor_table.specs.declared.NeighborEntry.{NeighborEntry}
-use Rattle.neighbor_table.specs.Table.{looked}
+use Rattle.neighbor_table.specs.Lookup.{looked}
 use Rattle.neighbor_columns.specs.Lent.{lentKeys}
 use Rattle.neighbor_columns.proofs.Rows.{found-row, missing-row}
 use borrow.Author.Needs.{needs}

@@ -3,12 +3,12 @@ use native.Mathlib.Omega.{arith}
 use mathlib.Core.Option.{Option}
 use mathlib.Core.Path.{sym, ap, _∙_}
 use Rattle.neighbor_table.specs.declared.NeighborEntry.{NeighborEntry}
-use Rattle.neighbor_table.specs.Table.{looked}
+use Rattle.neighbor_table.specs.Lookup.{looked}
 use Rattle.neighbor_columns.specs.Codec.{neighborFrom}
 use Rattle.neighbor_columns.specs.Lent.{lentLinks}
 use Rattle.neighbor_columns.proofs.Rows.{found-row, missing-row}
 use Rattle.neighbor_questions_lent.proofs.Places.{found-in-use}
-use Rattle.neighbors.specs.Answers.{isUnconfirmed}
+use Rattle.neighbor_queries.specs.Answers.{isUnconfirmed}
 use Rattle.neighbor_queries.specs.Filter.{fits}
 use borrow.Author.Needs.{needs}
 use Rattle.neighbor_questions_lent.proofs.is_unconfirmed_end_device_child.Statement.{

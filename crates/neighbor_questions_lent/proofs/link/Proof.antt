@@ -3,13 +3,13 @@ use native.Mathlib.Omega.{arith}
 use mathlib.Core.Option.{Option}
 use mathlib.Core.Path.{sym, ap}
 use Rattle.neighbor_table.specs.declared.NeighborEntry.{NeighborEntry}
-use Rattle.neighbor_table.specs.Table.{looked}
+use Rattle.neighbor_table.specs.Lookup.{looked}
 use Rattle.neighbor_columns.specs.Codec.{neighborFrom}
 use Rattle.neighbor_columns.specs.Lent.{seen}
 use Rattle.neighbor_queries.specs.Filter.{fits}
 use Rattle.neighbor_queries.specs.declared.Filter.the-variants.{Address}
 use Rattle.neighbor_queries_lent.proofs.Loops.{address-first, first-some, first-no}
-use Rattle.neighbors.specs.Answers.{linkIn}
+use Rattle.neighbor_queries.specs.Answers.{linkIn}
 use borrow.Author.Needs.{needs}
 use Rattle.neighbor_questions_lent.proofs.link.Statement.{statement}
 use Rattle.neighbor_questions_lent.proofs.link.Tie as tie

@@ -2,12 +2,12 @@
 use mathlib.Core.Option.{Option}
 use mathlib.Core.Path.{sym, ap}
 use Rattle.neighbor_table.specs.declared.NeighborEntry.{NeighborEntry}
-use Rattle.neighbor_table.specs.Table.{looked}
+use Rattle.neighbor_table.specs.Lookup.{looked}
 use Rattle.neighbor_columns.specs.Codec.{neighborFrom}
 use Rattle.neighbor_columns.specs.Lent.{seen, withKeys}
 use Rattle.neighbor_queries.specs.Filter.{fits}
 use Rattle.neighbor_queries_lent.proofs.Loops.{first-some, first-no}
-use Rattle.neighbors.specs.Answers.{nameIn}
+use Rattle.neighbor_queries.specs.Answers.{nameIn}
 use borrow.Author.Needs.{needs}
 use Rattle.neighbor_questions_lent.proofs.name_fitting.Statement.{statement}
 use Rattle.neighbor_questions_lent.proofs.name_fitting.Tie as tie

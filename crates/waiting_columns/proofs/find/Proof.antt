@@ -1,7 +1,8 @@
 -- The place of the address says which samples stand under it, or that there are none.
 use mathlib.Core.Option.{some}
 use mathlib.Core.Path.{sym, ap, _∙_}
-use Rattle.waiting_columns.specs.Table.{inColumns, looked}
+use Rattle.waiting_columns.specs.Table.{inColumns}
+use Rattle.waiting_table.specs.Lookup.{looked}
 use Rattle.waiting_columns.proofs.Rows.{in-columns, place-within, found-row, missing-row}
 use borrow.Author.Needs.{needs}
 use Rattle.waiting_columns.proofs.find.Statement.{statement}

@@ -5,7 +5,7 @@ use mathlib.Core.List.{_∷_}
 use mathlib.Core.Path.{sym, ap, _∙_}
 use Rattle.next_hop.specs.Numbers.{truthSaid}
 use Rattle.frame.specs.Numbers.{headerNumbers}
-use Rattle.neighbors.specs.declared.Truth.{Truth}
+use Rattle.neighbor_queries.specs.declared.Truth.{Truth}
 use Rattle.numbers.specs.Said.{ok, spoken}
 use Rattle.decision_lines.proofs.arguments.clear_answer.Statement.{statement}
 use Rattle.decision_lines.proofs.arguments.clear_answer.Tie as tie

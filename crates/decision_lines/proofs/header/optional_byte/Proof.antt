@@ -2,7 +2,7 @@
 use borrow.Author.Needs.{needs}
 use mathlib.Core.Path.{sym, ap, _∙_}
 use Rattle.frame.specs.declared.OptionalByte.the-variants.{Present}
-use Rattle.neighbors.proofs.Checked.{picks-first, picks-second}
+use Rattle.neighbor_queries.proofs.Checked.{picks-first, picks-second}
 use Rattle.decision_lines.proofs.header.optional_byte.Statement.{statement}
 use Rattle.decision_lines.proofs.header.optional_byte.Tie as tie
 

@@ -3,7 +3,7 @@ use lib.ListN.{length}
 use denote.Ref.{now}
 use borrow.Author.Tests.{eq-eqb, ne-eqb}
 use Rattle.cells.specs.Layout.{imageLength}
-use Rattle.image.specs.Good.{goodImage, addressLimits}
+use Rattle.image.specs.Good.{goodImage}
 use borrow.Author.Needs.{needs}
 use Rattle.image.proofs.good.good.Statement.{statement}
 use Rattle.image.proofs.good.good.Tie as tie
@@ -30,15 +30,12 @@ part-fits-start c = search needs
 part-fits-end : tie.Need-part-fits-end
 part-fits-end c = search needs
 
-slice-aggregate-fits : tie.Need-slice-aggregate-fits
-slice-aggregate-fits c = search needs
-
 fits-requires : tie.Need-fits-requires
 fits-requires c κs = search needs
 
 returns-2 : tie.Need-returns-2
-unfolding goodImage addressLimits
-returns-2 c = rw (eq-eqb (length (now (c .before .before .before .before .before .before .before .before .args .image))) imageLength (c .before .before .before .before .before .before .if1 .left), c .fits2 .ensures, c .before .before .before .neighbors-fit .ensures, c .before .before .before .before .routing-fits .ensures, c .before .before .before .before .before .head-fits .ensures)
+unfolding goodImage
+returns-2 c = rw (eq-eqb (length (now (c .before .before .before .before .before .before .before .args .image))) imageLength (c .before .before .before .before .before .if1 .left), c .fits2 .ensures, c .before .before .neighbors-fit .ensures, c .before .before .before .routing-fits .ensures, c .before .before .before .before .head-fits .ensures)
 
 pub good-spec : {M : Type 1} → statement M
 good-spec =
@@ -51,6 +48,5 @@ good-spec =
     sub-fits
     part-fits-start
     part-fits-end
-    slice-aggregate-fits
     fits-requires
     returns-2)

@@ -1,5 +1,5 @@
 -- The mark, the version and the counters are compared.
-use Rattle.image.specs.Good.{headFits, byteLimits}
+use Rattle.image.specs.Good.{headFits}
 use borrow.Author.Needs.{needs}
 use Rattle.image.proofs.good.head_fits.Statement.{statement}
 use Rattle.image.proofs.good.head_fits.Tie as tie
@@ -19,15 +19,12 @@ part-fits-start c = search needs
 part-fits-end : tie.Need-part-fits-end
 part-fits-end c = search needs
 
-slice-aggregate-fits : tie.Need-slice-aggregate-fits
-slice-aggregate-fits c = search needs
-
 fits-requires : tie.Need-fits-requires
 fits-requires c κs = search needs
 
 returns : tie.Need-returns
-unfolding headFits byteLimits
-returns c = rw (c .fits2 .ensures, c .before .before .before .at2 .ensures, c .before .before .before .before .at .ensures)
+unfolding headFits
+returns c = rw (c .fits2 .ensures, c .before .before .at2 .ensures, c .before .before .before .at .ensures)
 
 pub head-fits-spec : {M : Type 1} → statement M
 head-fits-spec =
@@ -38,6 +35,5 @@ head-fits-spec =
     sub-fits
     part-fits-start
     part-fits-end
-    slice-aggregate-fits
     fits-requires
     returns)

@@ -1,5 +1,5 @@
--- The rows of each table are compared.
-use Rattle.image.specs.Good.{neighborsFit, neighborLimits, waitingLimits}
+-- The addresses of each table are compared.
+use Rattle.image.specs.Good.{neighborsFit}
 use borrow.Author.Needs.{needs}
 use Rattle.image.proofs.good.neighbors_fit.Statement.{statement}
 use Rattle.image.proofs.good.neighbors_fit.Tie as tie
@@ -13,9 +13,6 @@ part-fits-start c = search needs
 part-fits-end : tie.Need-part-fits-end
 part-fits-end c = search needs
 
-slice-aggregate-fits : tie.Need-slice-aggregate-fits
-slice-aggregate-fits c = search needs
-
 fits-requires : tie.Need-fits-requires
 fits-requires c κs = search needs
 
@@ -28,15 +25,12 @@ part-fits-start-2 c = search needs
 part-fits-end-2 : tie.Need-part-fits-end-2
 part-fits-end-2 c = search needs
 
-slice-aggregate-fits-2 : tie.Need-slice-aggregate-fits-2
-slice-aggregate-fits-2 c = search needs
-
 fits-requires-2 : tie.Need-fits-requires-2
 fits-requires-2 c κs = search needs
 
 returns : tie.Need-returns
-unfolding neighborsFit neighborLimits waitingLimits
-returns c = rw (c .fits3 .ensures, c .before .before .before .fits2 .ensures)
+unfolding neighborsFit
+returns c = rw (c .fits3 .ensures, c .before .before .fits2 .ensures)
 
 pub neighbors-fit-spec : {M : Type 1} → statement M
 neighbors-fit-spec =
@@ -45,11 +39,9 @@ neighbors-fit-spec =
     sub-fits
     part-fits-start
     part-fits-end
-    slice-aggregate-fits
     fits-requires
     sub-fits-2
     part-fits-start-2
     part-fits-end-2
-    slice-aggregate-fits-2
     fits-requires-2
     returns)

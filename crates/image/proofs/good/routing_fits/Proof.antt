@@ -1,5 +1,5 @@
 -- The numbers of each column are compared.
-use Rattle.image.specs.Good.{routingFits, byteLimits, addressLimits, longLimits}
+use Rattle.image.specs.Good.{routingFits}
 use borrow.Author.Needs.{needs}
 use Rattle.image.proofs.good.routing_fits.Statement.{statement}
 use Rattle.image.proofs.good.routing_fits.Tie as tie
@@ -13,9 +13,6 @@ part-fits-start c = search needs
 part-fits-end : tie.Need-part-fits-end
 part-fits-end c = search needs
 
-slice-aggregate-fits : tie.Need-slice-aggregate-fits
-slice-aggregate-fits c = search needs
-
 fits-requires : tie.Need-fits-requires
 fits-requires c κs = search needs
 
@@ -27,9 +24,6 @@ part-fits-start-2 c = search needs
 
 part-fits-end-2 : tie.Need-part-fits-end-2
 part-fits-end-2 c = search needs
-
-slice-aggregate-fits-2 : tie.Need-slice-aggregate-fits-2
-slice-aggregate-fits-2 c = search needs
 
 fits-requires-2 : tie.Need-fits-requires-2
 fits-requires-2 c κs = search needs
@@ -43,9 +37,6 @@ part-fits-start-3 c = search needs
 part-fits-end-3 : tie.Need-part-fits-end-3
 part-fits-end-3 c = search needs
 
-slice-aggregate-fits-3 : tie.Need-slice-aggregate-fits-3
-slice-aggregate-fits-3 c = search needs
-
 fits-requires-3 : tie.Need-fits-requires-3
 fits-requires-3 c κs = search needs
 
@@ -57,9 +48,6 @@ part-fits-start-4 c = search needs
 
 part-fits-end-4 : tie.Need-part-fits-end-4
 part-fits-end-4 c = search needs
-
-slice-aggregate-fits-4 : tie.Need-slice-aggregate-fits-4
-slice-aggregate-fits-4 c = search needs
 
 fits-requires-4 : tie.Need-fits-requires-4
 fits-requires-4 c κs = search needs
@@ -73,15 +61,12 @@ part-fits-start-5 c = search needs
 part-fits-end-5 : tie.Need-part-fits-end-5
 part-fits-end-5 c = search needs
 
-slice-aggregate-fits-5 : tie.Need-slice-aggregate-fits-5
-slice-aggregate-fits-5 c = search needs
-
 fits-requires-5 : tie.Need-fits-requires-5
 fits-requires-5 c κs = search needs
 
 returns : tie.Need-returns
-unfolding routingFits byteLimits addressLimits longLimits
-returns c = rw (c .fits6 .ensures, c .before .before .before .fits5 .ensures, c .before .before .before .before .before .before .fits4 .ensures, c .before .before .before .before .before .before .before .before .before .fits3 .ensures, c .before .before .before .before .before .before .before .before .before .before .before .before .fits2 .ensures)
+unfolding routingFits
+returns c = rw (c .fits6 .ensures, c .before .before .fits5 .ensures, c .before .before .before .before .fits4 .ensures, c .before .before .before .before .before .before .fits3 .ensures, c .before .before .before .before .before .before .before .before .fits2 .ensures)
 
 pub routing-fits-spec : {M : Type 1} → statement M
 routing-fits-spec =
@@ -90,26 +75,21 @@ routing-fits-spec =
     sub-fits
     part-fits-start
     part-fits-end
-    slice-aggregate-fits
     fits-requires
     sub-fits-2
     part-fits-start-2
     part-fits-end-2
-    slice-aggregate-fits-2
     fits-requires-2
     sub-fits-3
     part-fits-start-3
     part-fits-end-3
-    slice-aggregate-fits-3
     fits-requires-3
     sub-fits-4
     part-fits-start-4
     part-fits-end-4
-    slice-aggregate-fits-4
     fits-requires-4
     sub-fits-5
     part-fits-start-5
     part-fits-end-5
-    slice-aggregate-fits-5
     fits-requires-5
     returns)

@@ -1,26 +1,34 @@
--- The test decides between the core form and the refusal.
+-- A state that is not well formed is refused; of any other the answer is that of its columns.
 -- Assumes nothing.
-use borrow.Author.Needs.{needs}
 use mathlib.Core.Path.{sym, _∙_}
-use Rattle.neighbors.proofs.Checked.{well-formed-told, picks-first, picks-second}
+use borrow.Author.Tests.{not-true, not-false}
+use Rattle.neighbor_queries_lent.proofs.Ready.{words-in-use}
 use Rattle.neighbors.specs.Queries.{anyLiveRouterLink}
+use Rattle.neighbors.specs.State.{tableIn}
+use Rattle.neighbors.proofs.State.{state-told}
+use borrow.Author.Needs.{needs}
 use Rattle.neighbors.proofs.Neighbors.any_live_router_link.Statement.{statement}
 use Rattle.neighbors.proofs.Neighbors.any_live_router_link.Tie as tie
 
 well-formed-requires : tie.Need-well-formed-requires
 well-formed-requires c κs = search needs
 
-any-live-router-link-core-requires : tie.Need-any-live-router-link-core-requires
-any-live-router-link-core-requires c κs = well-formed-told _ .fact (sym (c .before .well-formed .ensures) ∙ c .if1 .taken)
-
 returns : tie.Need-returns
 unfolding anyLiveRouterLink
-returns c = c .any-live-router-link-core .ensures ∙ sym (picks-first _ _ (sym (c .before .before .well-formed .ensures) ∙ c .before .if1 .taken))
+returns c = rw (sym (c .before .well-formed .ensures) ∙ not-true _ (c .if1 .taken))
+
+slice-aggregate-any-live-router-link : tie.Need-slice-aggregate-any-live-router-link
+slice-aggregate-any-live-router-link c = search needs
+
+slice-aggregate-any-live-router-link-2 : tie.Need-slice-aggregate-any-live-router-link-2
+slice-aggregate-any-live-router-link-2 c = search needs
+
+any-live-router-link-requires : tie.Need-any-live-router-link-requires
+any-live-router-link-requires c κs = words-in-use _ ((state-told _ .fact (sym (c .before .before .before .before .before .well-formed .ensures) ∙ not-false _ (c .before .before .before .before .if1 .left))) .table .formed)
 
 returns-2 : tie.Need-returns-2
 unfolding anyLiveRouterLink
-returns-2 c = sym (picks-second _ _ (sym (c .before .well-formed .ensures) ∙ c .if1 .left))
+returns-2 c = rw ((sym (c .before .before .before .before .before .before .well-formed .ensures) ∙ not-false _ (c .before .before .before .before .before .if1 .left)), c .any-live-router-link .ensures (tableIn (c .before .before .before .before .before .before .before .args .self)) ((state-told _ .fact (sym (c .before .before .before .before .before .before .well-formed .ensures) ∙ not-false _ (c .before .before .before .before .before .if1 .left))) .table .formed))
 
 pub any-live-router-link-spec : {M : Type 1} → statement M
-any-live-router-link-spec =
-    tie.close (tie.spec well-formed-requires any-live-router-link-core-requires returns returns-2)
+any-live-router-link-spec = tie.close (tie.spec well-formed-requires returns slice-aggregate-any-live-router-link slice-aggregate-any-live-router-link-2 any-live-router-link-requires returns-2)

@@ -1,25 +1,25 @@
--- The test decides between the core form and the refusal.
+-- A state that is not well formed is refused; of any other the answer is that of its columns.
 -- Assumes nothing.
-use borrow.Author.Needs.{needs}
 use mathlib.Core.Path.{sym, _∙_}
-use Rattle.neighbors.proofs.Checked.{well-formed-told, picks-first, picks-second}
+use borrow.Author.Tests.{not-true, not-false}
+use Rattle.neighbor_columns.proofs.Rows.{many}
 use Rattle.neighbors.specs.Queries.{count}
+use Rattle.neighbors.specs.State.{tableIn}
+use Rattle.neighbors.proofs.State.{state-told}
+use borrow.Author.Needs.{needs}
 use Rattle.neighbors.proofs.Neighbors.count.Statement.{statement}
 use Rattle.neighbors.proofs.Neighbors.count.Tie as tie
 
 well-formed-requires : tie.Need-well-formed-requires
 well-formed-requires c κs = search needs
 
-count-core-requires : tie.Need-count-core-requires
-count-core-requires c κs = well-formed-told _ .fact (sym (c .before .well-formed .ensures) ∙ c .if1 .taken)
-
 returns : tie.Need-returns
 unfolding count
-returns c = c .count-core .ensures ∙ sym (picks-first _ _ (sym (c .before .before .well-formed .ensures) ∙ c .before .if1 .taken))
+returns c = rw (sym (c .before .well-formed .ensures) ∙ not-true _ (c .if1 .taken))
 
 returns-2 : tie.Need-returns-2
 unfolding count
-returns-2 c = sym (picks-second _ _ (sym (c .before .well-formed .ensures) ∙ c .if1 .left))
+returns-2 c = rw ((sym (c .before .well-formed .ensures) ∙ not-false _ (c .if1 .left)), many (tableIn (c .before .before .args .self)) ((state-told _ .fact (sym (c .before .well-formed .ensures) ∙ not-false _ (c .if1 .left))) .table .formed))
 
 pub count-spec : {M : Type 1} → statement M
-count-spec = tie.close (tie.spec well-formed-requires count-core-requires returns returns-2)
+count-spec = tie.close (tie.spec well-formed-requires returns returns-2)

@@ -1,17 +1,14 @@
--- Two tables with no row.
--- Assumes nothing.
+-- Each column of a fresh state is noughts, as in a table of no rows.
+use mathlib.Core.Path.{refl}
+use Rattle.neighbor_columns.specs.Table as neighbours
+use Rattle.waiting_columns.specs.Table as waiting
 use borrow.Author.Needs.{needs}
 use Rattle.neighbors.proofs.Neighbors.new.Statement.{statement}
 use Rattle.neighbors.proofs.Neighbors.new.Tie as tie
 
-new-requires : tie.Need-new-requires
-new-requires c κs = search needs
-
-new-requires-2 : tie.Need-new-requires-2
-new-requires-2 c κs = search needs
-
 returns : tie.Need-returns
-returns c = rw (c .new2 .ensures, c .before .new .ensures)
+unfolding neighbours.tableOf waiting.tableOf
+returns c = refl
 
 pub new-spec : {M : Type 1} → statement M
-new-spec = tie.close (tie.spec new-requires new-requires-2 returns)
+new-spec = tie.close (tie.spec returns)

@@ -1,35 +1,35 @@
--- The test decides between the core form and the refusal.
+-- A state that is not well formed is refused as it is; in any other the columns that the call leaves are put back, and they are those of its rows.
 -- Assumes nothing.
-use borrow.Author.Needs.{needs}
 use mathlib.Core.Path.{sym, _∙_}
-use Rattle.neighbors.proofs.Checked.{well-formed-told, picks-first, picks-second}
+use borrow.Author.Tests.{not-true, not-false}
+use Rattle.neighbor_queries.specs.declared.Answer.the-variants.{Done}
 use Rattle.neighbors.specs.Changes.{resetTransmitFailures}
+use Rattle.neighbors.specs.State.{tableIn}
+use Rattle.neighbors.proofs.Ready.{counts-long}
+use Rattle.neighbors.proofs.State.{state-told, held}
+use borrow.Author.Needs.{needs}
 use Rattle.neighbors.proofs.Neighbors.reset_transmit_failures.Statement.{statement}
 use Rattle.neighbors.proofs.Neighbors.reset_transmit_failures.Tie as tie
 
 well-formed-requires : tie.Need-well-formed-requires
 well-formed-requires c κs = search needs
 
-reset-transmit-failures-core-requires : tie.Need-reset-transmit-failures-core-requires
-reset-transmit-failures-core-requires c κs = well-formed-told _ .fact (sym (c .before .well-formed .ensures) ∙ c .if1 .taken)
-
-refused-requires : tie.Need-refused-requires
-refused-requires c κs = search needs
+refuse-requires : tie.Need-refuse-requires
+refuse-requires c κs = search needs
 
 returns : tie.Need-returns
 unfolding resetTransmitFailures
-returns c = c .reset-transmit-failures-core .ensures ∙ sym (picks-first _ _ (sym (c .before .before .well-formed .ensures) ∙ c .before .if1 .taken))
+returns c = rw (sym (c .before .before .well-formed .ensures) ∙ not-true _ (c .before .if1 .taken)) (c .refuse .ensures)
+
+slice-aggregate-reset-transmit-failures : tie.Need-slice-aggregate-reset-transmit-failures
+slice-aggregate-reset-transmit-failures c = search needs
+
+reset-transmit-failures-requires : tie.Need-reset-transmit-failures-requires
+reset-transmit-failures-requires c κs = counts-long _ ((state-told _ .fact (sym (c .before .before .before .well-formed .ensures) ∙ not-false _ (c .before .before .if1 .left))) .table .formed)
 
 returns-2 : tie.Need-returns-2
 unfolding resetTransmitFailures
-returns-2 c = c .refused .ensures ∙ sym (picks-second _ _ (sym (c .before .before .well-formed .ensures) ∙ c .before .if1 .left))
+returns-2 c = rw (sym (c .before .before .before .before .before .well-formed .ensures) ∙ not-false _ (c .before .before .before .before .if1 .left)) (λ z. record { answer = Done; state = held (c .before .before .before .before .before .before .args .self) _ _ (c .before .reset-transmit-failures .ensures (tableIn (c .before .before .before .before .before .before .args .self)) ((state-told _ .fact (sym (c .before .before .before .before .before .well-formed .ensures) ∙ not-false _ (c .before .before .before .before .if1 .left))) .table)) z })
 
 pub reset-transmit-failures-spec : {M : Type 1} → statement M
-reset-transmit-failures-spec =
-    tie.close
-    (tie.spec
-    well-formed-requires
-    reset-transmit-failures-core-requires
-    refused-requires
-    returns
-    returns-2)
+reset-transmit-failures-spec = tie.close (tie.spec well-formed-requires refuse-requires returns slice-aggregate-reset-transmit-failures reset-transmit-failures-requires returns-2)

@@ -3,7 +3,7 @@ use mathlib.Core.Path.{sym, _∙_}
 use borrow.Author.Tests.{not-false}
 use Rattle.relay_store.proofs.Agree.{agrees-told}
 use Rattle.routing.proofs.State.{state-told}
-use Rattle.neighbors.proofs.Checked.{well-formed-told}
+use Rattle.neighbors.proofs.State as neighbor-state
 use borrow.Author.Needs.{needs}
 use Rattle.speed.proofs.decisions.decisions_core.Statement.{statement}
 use Rattle.speed.proofs.decisions.decisions_core.Tie as tie
@@ -31,7 +31,7 @@ decisions-held-requires c κs =
     let known = c .before .before in
     let first = known .before .before in (
       state-told _ .fact (sym (first .before .well-formed .ensures) ∙ not-false _ (first .if1 .left)),
-      well-formed-told _ .fact (sym (known .before .well-formed2 .ensures) ∙ not-false _ (known .if2 .left)),
+      neighbor-state.state-told _ .fact (sym (known .before .well-formed2 .ensures) ∙ not-false _ (known .if2 .left)),
       agrees-told _ _ .fact (sym (c .before .agrees .ensures) ∙ not-false _ (c .if3 .left)),
     )
 
