@@ -219,6 +219,20 @@ pub fn rising32(keys: &[u32], count: usize) -> bool
     ok
 }
 
+// Whether the first `count` of `keys` go up strictly.
+pub fn rising64(keys: &[u64], count: usize) -> bool
+    requires { ⌜ count ≤ length (now keys) ⌝ }
+    ensures { λ r. ⌜ Tells (Rising (now (keys .entry)) count) r ⌝ }
+{
+    let mut ok = true;
+    let mut i: usize = 0;
+    while i + 1 < count {
+        ok = ok & (keys[i] < keys[i + 1]);
+        i += 1;
+    }
+    ok
+}
+
 // Whether every number from place n on is 0.
 pub fn zero_from8(a: &[u8], n: usize) -> bool
     ensures { λ r. ⌜ Tells (ZeroFrom (now (a .entry)) n) r ⌝ }

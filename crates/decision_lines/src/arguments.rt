@@ -20,7 +20,7 @@ ghost use Rattle.decision_lines.specs.Arguments.{kindOf, lengthOf, modeA
 ghost use Rattle.next_hop.specs.Numbers.{resolveSaid, clearSaid};
 
 // The kind of a mode's number, with the hop that it may name.
-fn kind(number: u64, hop: Nwk) -> SendKind
+pub fn kind(number: u64, hop: Nwk) -> SendKind
     ensures { λ r. ⌜ r ≡ kindOf number hop ⌝ }
 {
     let all = [

@@ -61,24 +61,24 @@ pub store-left : (u : records.RecordTable) (store : List ℕ) (xs : List RouteRe
 store-left u store xs h = holds-view u store xs h .1
 
 -- A call by value is a test of the state, the rule's outcome and a refusal.
-module _ {A P : Type 0} (core ill : Routing → A) {reading : Reading A P} {state : Counters → Routing} {old new : P} {r : ℕ} where
-  pub ill-asked : ((c : Counters) → wellFormed (state c) ≡ false) → ((c : Counters) → Says reading (ill (state c)) old new r)
-      → Asked reading (λ (s : Routing). cond (wellFormed s) (core s) (ill s)) state old new r
+module _ {C S A P : Type 0} (test : S → Bool) (core ill : S → A) {reading : Reading A P} {state : C → S} {old new : P} {r : ℕ} where
+  pub ill-asked : ((c : C) → test (state c) ≡ false) → ((c : C) → Says reading (ill (state c)) old new r)
+      → Asked reading (λ (s : S). cond (test s) (core s) (ill s)) state old new r
   ill-asked e x = record { said = λ c. rw (e c) (x c) }
 
-  pub rule-asked : ((c : Counters) → wellFormed (state c) ≡ true) → ((c : Counters) → Says reading (core (state c)) old new r)
-      → Asked reading (λ (s : Routing). cond (wellFormed s) (core s) (ill s)) state old new r
+  pub rule-asked : ((c : C) → test (state c) ≡ true) → ((c : C) → Says reading (core (state c)) old new r)
+      → Asked reading (λ (s : S). cond (test s) (core s) (ill s)) state old new r
   rule-asked e x = record { said = λ c. rw (e c) (x c) }
 
-module _ {O A P : Type 0} (core ill : Routing → O) {reading : Reading A P} {answer : O → A} {next : O → Routing} {before after : Counters → Routing} {old new : P} {r : ℕ} where
-  pub ill-made : ((c : Counters) → wellFormed (before c) ≡ false)
-      → ((c : Counters) → after c ≡ next (ill (before c))) → ((c : Counters) → Says reading (answer (ill (before c))) old new r)
-      → Made reading answer next (λ (s : Routing). cond (wellFormed s) (core s) (ill s)) before after old new r
+module _ {C S O A P : Type 0} (test : S → Bool) (core ill : S → O) {reading : Reading A P} {answer : O → A} {next : O → S} {before after : C → S} {old new : P} {r : ℕ} where
+  pub ill-made : ((c : C) → test (before c) ≡ false)
+      → ((c : C) → after c ≡ next (ill (before c))) → ((c : C) → Says reading (answer (ill (before c))) old new r)
+      → Made reading answer next (λ (s : S). cond (test s) (core s) (ill s)) before after old new r
   ill-made e s x = record { state = λ c. rw (e c) (s c); said = λ c. rw (e c) (x c) }
 
-  pub rule-made : ((c : Counters) → wellFormed (before c) ≡ true)
-      → ((c : Counters) → after c ≡ next (core (before c))) → ((c : Counters) → Says reading (answer (core (before c))) old new r)
-      → Made reading answer next (λ (s : Routing). cond (wellFormed s) (core s) (ill s)) before after old new r
+  pub rule-made : ((c : C) → test (before c) ≡ true)
+      → ((c : C) → after c ≡ next (core (before c))) → ((c : C) → Says reading (answer (core (before c))) old new r)
+      → Made reading answer next (λ (s : S). cond (test s) (core s) (ill s)) before after old new r
   rule-made e s x = record { state = λ c. rw (e c) (s c); said = λ c. rw (e c) (x c) }
 
 -- and so for the store that a call leaves
@@ -86,21 +86,21 @@ module _ {O A P : Type 0} (core ill : Routing → O) (coreStore illStore : Routi
   pub ill-stored : ((c : Counters) → wellFormed (before c) ≡ false)
       → ((c : Counters) → after c ≡ next (ill (before c))) → ((c : Counters) → later ≡ illStore (before c)) → ((c : Counters) → Says reading (answer (ill (before c))) old new r)
       → Stored reading answer next (λ (s : Routing). cond (wellFormed s) (core s) (ill s)) (λ (s : Routing). cond (wellFormed s) (coreStore s) (illStore s)) before after later old new r
-  ill-stored e s k x = record { made = ill-made core ill e s x; kept = λ c. rw (e c) (k c) }
+  ill-stored e s k x = record { made = ill-made wellFormed core ill e s x; kept = λ c. rw (e c) (k c) }
 
   pub rule-stored : ((c : Counters) → wellFormed (before c) ≡ true)
       → ((c : Counters) → after c ≡ next (core (before c))) → ((c : Counters) → later ≡ coreStore (before c)) → ((c : Counters) → Says reading (answer (core (before c))) old new r)
       → Stored reading answer next (λ (s : Routing). cond (wellFormed s) (core s) (ill s)) (λ (s : Routing). cond (wellFormed s) (coreStore s) (illStore s)) before after later old new r
-  rule-stored e s k x = record { made = rule-made core ill e s x; kept = λ c. rw (e c) (k c) }
+  rule-stored e s k x = record { made = rule-made wellFormed core ill e s x; kept = λ c. rw (e c) (k c) }
 
 -- one outcome only
-pub asked-one : {A P : Type 0} {reading : Reading A P} {ask : Routing → A} {state : Counters → Routing} {old new new' : P} {r r' : ℕ}
-    → Asked reading ask state old new r → Asked reading ask state old new' r' → Counters → (new ≡ new') × (r ≡ r')
+pub asked-one : {C S A P : Type 0} {reading : Reading A P} {ask : S → A} {state : C → S} {old new new' : P} {r r' : ℕ}
+    → Asked reading ask state old new r → Asked reading ask state old new' r' → C → (new ≡ new') × (r ≡ r')
 asked-one x y c = (x .said c .places ∙ sym (y .said c .places), x .said c .status ∙ sym (y .said c .status))
 
-pub made-one : {O A P : Type 0} {reading : Reading A P} {answer : O → A} {next : O → Routing} {call : Routing → O} {before after after' : Counters → Routing} {old new new' : P} {r r' : ℕ}
+pub made-one : {C S O A P : Type 0} {reading : Reading A P} {answer : O → A} {next : O → S} {call : S → O} {before after after' : C → S} {old new new' : P} {r r' : ℕ}
     → Made reading answer next call before after old new r → Made reading answer next call before after' old new' r'
-    → (c : Counters) → (after c ≡ after' c) × (new ≡ new') × (r ≡ r')
+    → (c : C) → (after c ≡ after' c) × (new ≡ new') × (r ≡ r')
 made-one x y c = (x .state c ∙ sym (y .state c), x .said c .places ∙ sym (y .said c .places), x .said c .status ∙ sym (y .said c .status))
 
 pub stored-one : {O A P : Type 0} {reading : Reading A P} {answer : O → A} {next : O → Routing} {call : Routing → O} {store : Routing → List ℕ} {before after after' : Counters → Routing} {later later' : List ℕ} {old new new' : P} {r r' : ℕ}
@@ -112,24 +112,24 @@ stored-one x y c = let z = made-one (x .made) (y .made) c in (z .0, x .kept c �
 abbrev pub Keeps : {A P : Type 0} → Reading A P → Type 0
 Keeps {A = A} {P = P} reading = (a : A) (old : P) → 0 < reading .status a → reading .places a old ≡ old
 
-pub record Hands {O A P : Type 0} (reading : Reading A P) (answer : O → A) (next : O → Routing) (call : Routing → O) : Type 0 where
-  pub back : (s : Routing) → 0 < reading .status (answer (call s)) → next (call s) ≡ s
+pub record Hands {S O A P : Type 0} (reading : Reading A P) (answer : O → A) (next : O → S) (call : S → O) : Type 0 where
+  pub back : (s : S) → 0 < reading .status (answer (call s)) → next (call s) ≡ s
 
 -- a call that its test alone refuses
-pub hands-first : {O A P : Type 0} (core ill : Routing → O) {reading : Reading A P} {answer : O → A} {next : O → Routing}
-    → ((s : Routing) → reading .status (answer (core s)) ≡ 0) → ((s : Routing) → next (ill s) ≡ s)
-    → Hands reading answer next (λ (s : Routing). cond (wellFormed s) (core s) (ill s))
-hands-first {O = O} core ill {reading} {answer} {next} z h = record { back = go } where
-  go : (s : Routing) → 0 < reading .status (answer (cond (wellFormed s) (core s) (ill s))) → next (cond (wellFormed s) (core s) (ill s)) ≡ s
-  go s = by-test (λ (x : O). 0 < reading .status (answer x) → next x ≡ s) (wellFormed s) (core s) (ill s) (λ _ p. absurd (omega (arith, z s))) (λ _. h s)
+pub hands-first : {S O A P : Type 0} (test : S → Bool) (core ill : S → O) {reading : Reading A P} {answer : O → A} {next : O → S}
+    → ((s : S) → reading .status (answer (core s)) ≡ 0) → ((s : S) → next (ill s) ≡ s)
+    → Hands reading answer next (λ (s : S). cond (test s) (core s) (ill s))
+hands-first {S = S} {O = O} test core ill {reading} {answer} {next} z h = record { back = go } where
+  go : (s : S) → 0 < reading .status (answer (cond (test s) (core s) (ill s))) → next (cond (test s) (core s) (ill s)) ≡ s
+  go s = by-test (λ (x : O). 0 < reading .status (answer x) → next x ≡ s) (test s) (core s) (ill s) (λ _ p. absurd (omega (arith, z s))) (λ _. h s)
 
-module _ {A P : Type 0} {reading : Reading A P} {ask : Routing → A} {state : Counters → Routing} {old new : P} {r : ℕ} where
-  pub refused-asked : Keeps reading → Asked reading ask state old new r → 0 < r → Counters → new ≡ old
+module _ {C S A P : Type 0} {reading : Reading A P} {ask : S → A} {state : C → S} {old new : P} {r : ℕ} where
+  pub refused-asked : Keeps reading → Asked reading ask state old new r → 0 < r → C → new ≡ old
   refused-asked keeps x p c = x .said c .places ∙ keeps (ask (state c)) old (subst (λ (n : ℕ). 0 < n) (x .said c .status) p)
 
-module _ {O A P : Type 0} {reading : Reading A P} {answer : O → A} {next : O → Routing} {call : Routing → O} {before after : Counters → Routing} {old new : P} {r : ℕ} where
+module _ {C S O A P : Type 0} {reading : Reading A P} {answer : O → A} {next : O → S} {call : S → O} {before after : C → S} {old new : P} {r : ℕ} where
   pub refused-made : Keeps reading → Hands reading answer next call → Made reading answer next call before after old new r → 0 < r
-      → (c : Counters) → (after c ≡ before c) × (new ≡ old)
+      → (c : C) → (after c ≡ before c) × (new ≡ old)
   refused-made keeps hands x p c =
       let q : 0 < reading .status (answer (call (before c))) = subst (λ (n : ℕ). 0 < n) (x .said c .status) p in
       (x .state c ∙ hands .back (before c) q, x .said c .places ∙ keeps (answer (call (before c))) old q)

@@ -1,6 +1,6 @@
--- A routing state that a caller keeps and lends as columns, and what a call on it leaves: the state, the answer's status, the numbers of the answer.
--- Each is that of the call by value on the state of the numbers lent. A call is lent what it reads or changes; of the counters that it is not
--- lent nothing is known, and what is said holds whatever they are.
+-- A state that a caller keeps and lends as columns, and what a call on it leaves: the state, the answer's status, the numbers of the answer.
+-- Each is that of the call by value on the state of the numbers lent. A call is lent what it reads or changes; of what it is not
+-- lent (C, such as the counters of a routing state) nothing is known, and what is said holds whatever it is.
 -- Assumes nothing.
 use Prim.Native.Nat.{ℕ}
 use mathlib.Core.List.{List}
@@ -54,13 +54,13 @@ pub record Says {A P : Type 0} (reading : Reading A P) (answer : A) (old new : P
   pub places : new ≡ reading .places answer old
 
 -- what a question leaves: the numbers of its answer
-pub record Asked {A P : Type 0} (reading : Reading A P) (ask : Routing → A) (state : Counters → Routing) (old new : P) (r : ℕ) : Type 0 where
-  pub said : (c : Counters) → Says reading (ask (state c)) old new r
+pub record Asked {C S A P : Type 0} (reading : Reading A P) (ask : S → A) (state : C → S) (old new : P) (r : ℕ) : Type 0 where
+  pub said : (c : C) → Says reading (ask (state c)) old new r
 
 -- what a call leaves of the state before it, whose outcome is an answer and the next state: the numbers of the one, and the other as the state after it
-pub record Made {O A P : Type 0} (reading : Reading A P) (answer : O → A) (next : O → Routing) (call : Routing → O) (before after : Counters → Routing) (old new : P) (r : ℕ) : Type 0 where
-  pub state : (c : Counters) → after c ≡ next (call (before c))
-  pub said : (c : Counters) → Says reading (answer (call (before c))) old new r
+pub record Made {C S O A P : Type 0} (reading : Reading A P) (answer : O → A) (next : O → S) (call : S → O) (before after : C → S) (old new : P) (r : ℕ) : Type 0 where
+  pub state : (c : C) → after c ≡ next (call (before c))
+  pub said : (c : C) → Says reading (answer (call (before c))) old new r
 
 -- what a call leaves that is lent the relay store too: the store after it
 pub record Stored {O A P : Type 0} (reading : Reading A P) (answer : O → A) (next : O → Routing) (call : Routing → O) (store : Routing → List ℕ) (before after : Counters → Routing) (later : List ℕ) (old new : P) (r : ℕ) : Type 0 where
@@ -68,8 +68,8 @@ pub record Stored {O A P : Type 0} (reading : Reading A P) (answer : O → A) (n
   pub kept : (c : Counters) → later ≡ store (before c)
 
 -- what is no call changes nothing, and says so
-pub record NotMade {P : Type 0} (before after : Counters → Routing) (old new : P) (r : ℕ) : Type 0 where
-  pub state : (c : Counters) → after c ≡ before c
+pub record NotMade {C S P : Type 0} (before after : C → S) (old new : P) (r : ℕ) : Type 0 where
+  pub state : (c : C) → after c ≡ before c
   pub places : new ≡ old
   pub status : r ≡ noCall
 

@@ -48,4 +48,4 @@ module _ (before after : Counters → Routing) (r : ℕ) (p : 0 < r) (destinatio
 
   pub remove-route-refused : (old new : ℕ) → ToldMade (λ (s : Routing). removeRoute s destination) before after old new r → (c : Counters) → (after c ≡ before c) × (new ≡ old)
   unfolding removeRoute
-  remove-route-refused old new x = refused-made told-keeps (hands-first _ _ (λ _. refl) (λ _. refl)) x p
+  remove-route-refused old new x = refused-made told-keeps (hands-first wellFormed _ _ (λ _. refl) (λ _. refl)) x p

@@ -5,6 +5,7 @@ use Rattle.types.specs.declared.Nwk.{Nwk}
 use Rattle.routing.specs.declared.Routing.{Routing}
 use Rattle.routing.specs.declared.DoneOutcome.{DoneOutcome}
 use Rattle.routing.specs.Routes.{markDiscoveryFailed, recordUsage, noteSourceRoutedFrame, decayActivity, invalidateVia}
+use Rattle.routing.specs.State.{wellFormed}
 use Rattle.door.specs.Lent.{Counters}
 use Rattle.door.specs.Places.{DoneMade, doneNumbers}
 use Rattle.door.proofs.Lent.{Hands, hands-first, refused-made, done-keeps}
@@ -22,20 +23,20 @@ module _ (before after : Counters → Routing) (r : ℕ) where
 
   pub mark-discovery-failed-refused : (d : Nwk) → Leaves (λ (s : Routing). markDiscoveryFailed s d)
   unfolding markDiscoveryFailed
-  mark-discovery-failed-refused d = left _ (hands-first _ _ (λ _. refl) (λ _. refl))
+  mark-discovery-failed-refused d = left _ (hands-first wellFormed _ _ (λ _. refl) (λ _. refl))
 
   pub record-usage-refused : (d : Nwk) → Leaves (λ (s : Routing). recordUsage s d)
   unfolding recordUsage
-  record-usage-refused d = left _ (hands-first _ _ (λ _. refl) (λ _. refl))
+  record-usage-refused d = left _ (hands-first wellFormed _ _ (λ _. refl) (λ _. refl))
 
   pub note-source-routed-frame-refused : (d : Nwk) → Leaves (λ (s : Routing). noteSourceRoutedFrame s d)
   unfolding noteSourceRoutedFrame
-  note-source-routed-frame-refused d = left _ (hands-first _ _ (λ _. refl) (λ _. refl))
+  note-source-routed-frame-refused d = left _ (hands-first wellFormed _ _ (λ _. refl) (λ _. refl))
 
   pub decay-activity-refused : Leaves (λ (s : Routing). decayActivity s)
   unfolding decayActivity
-  decay-activity-refused = left _ (hands-first _ _ (λ _. refl) (λ _. refl))
+  decay-activity-refused = left _ (hands-first wellFormed _ _ (λ _. refl) (λ _. refl))
 
   pub invalidate-via-refused : (hop : Nwk) → Leaves (λ (s : Routing). invalidateVia s hop)
   unfolding invalidateVia
-  invalidate-via-refused hop = left _ (hands-first _ _ (λ _. refl) (λ _. refl))
+  invalidate-via-refused hop = left _ (hands-first wellFormed _ _ (λ _. refl) (λ _. refl))

@@ -4,7 +4,6 @@ ghost use lib.ListN.{length, take};
 ghost use mathlib.Core.Path.{_≡_};
 ghost use Rattle.flat_map.specs.Seek.{placeOf};
 ghost use Rattle.flat_map.specs.Table.{Rising};
-ghost use Rattle.standard.specs.Tells.{Tells};
 
 // Where a key stands, or where it would stand.
 pub enum Place {
@@ -32,19 +31,4 @@ pub fn index_of(keys: &[u64], count: usize, key: u64) -> Place
         }
     }
     Place::Missing(low)
-}
-
-// Whether the first `count` of `keys` go up strictly.
-pub fn rising(keys: &[u64], count: usize) -> bool
-    requires { ⌜ count ≤ length (now keys) ⌝ }
-    ensures { λ r. ⌜ Tells (Rising (now (keys .entry)) count) r ⌝ }
-{
-    let mut i: usize = 0;
-    while i + 1 < count {
-        if keys[i + 1] <= keys[i] {
-            return false;
-        }
-        i += 1;
-    }
-    true
 }

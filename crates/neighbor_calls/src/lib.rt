@@ -29,8 +29,8 @@ pub struct TruthOutcome {
 
 // A network address, if there is one, and the next state.
 pub struct NwkOutcome {
-    pub answer: NwkAnswer,
     pub state: Neighbors,
+    pub answer: NwkAnswer,
 }
 
 // The children that were removed, and the next state.

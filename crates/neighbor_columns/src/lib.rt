@@ -389,7 +389,7 @@ fn in_order(
     if 64 < count {
         return false;
     }
-    flat_map::rising(keys, count)
+    columns::rising64(keys, count)
 }
 
 // Whether a link word names a device type and a relationship.

@@ -6,6 +6,7 @@ use Prim.Native.Nat.{ℕ, zero, suc, _+_, _*_, _<_, _≤_}
 use mathlib.Core.Bool.{Bool, true, _&&_}
 use mathlib.Core.List.{List, [], _∷_, _++_, map}
 use mathlib.Core.Path.{_≡_}
+use lib.Bits.{bitAnd, bitOr}
 use lib.Dec.{eqb}
 use lib.ListN.{length, take, drop, getD, set}
 use Rattle.types.specs.declared.Nwk.{Nwk}
@@ -92,12 +93,13 @@ agreesBy lengths store = eqb (length store) 2048 && allBelow 64 (λ i. every (eq
 abbrev pub agrees : RecordTable → List ℕ → Bool
 agrees t store = agreesBy (t .lengths) store
 
--- each number of a row is at most that of a limit
-abbrev pub Within : List ℕ → List ℕ → Type 0
-Within row limit = (j : ℕ) → j < length row → getD row j 0 ≤ getD limit j 0
+-- what is gathered at 32 places after one more row: the bits that were there, and those of the row's number that its mask lets through
+pub record Marked (old row mask new : List ℕ) : Type 0 where
+  pub long : length new ≡ 32
+  pub each : (j : ℕ) → j < 32 → getD new j 0 ≡ bitOr (getD old j 0) (bitAnd (getD row j 0) (getD mask j 0))
 
--- the limits that rows are compared with: 32 numbers that no number passes, and 32 zeros
-pub record Limits (limits : List ℕ) : Type 0 where
-  pub long : length limits ≡ 64
-  pub high : (j : ℕ) → j < 32 → getD limits j 0 ≡ 65535
-  pub low : ZeroFrom limits 32
+-- the masks that rows are read through: 32 that let nothing through, and 32 that let all through
+pub record Masks (masks : List ℕ) : Type 0 where
+  pub long : length masks ≡ 64
+  pub none : (j : ℕ) → j < 32 → getD masks j 0 ≡ 0
+  pub all : (j : ℕ) → 32 ≤ j → j < 64 → getD masks j 0 ≡ 65535

@@ -10,8 +10,7 @@ ghost use lib.ListN.{length, take, drop};
 ghost use Rattle.flat_map.specs.Shift.{shiftIn, shiftOut};
 ghost use Rattle.flat_map.specs.Table.{ZeroFrom};
 ghost use Rattle.standard.specs.Route.{nwk};
-ghost use Rattle.standard.specs.Tells.{Tells};
-ghost use Rattle.relay_store.specs.Store.{rowAt, withRow, onRows, rowOf, rowPut, PlaceWithin, blankRow, relaysOf, relayList, agreesBy, Within, Limits};
+ghost use Rattle.relay_store.specs.Store.{rowAt, withRow, onRows, rowOf, rowPut, PlaceWithin, blankRow, relaysOf, relayList, agreesBy, Marked, Masks};
 
 // The list that names no relay.
 pub fn no_relays() -> RelayList
@@ -124,34 +123,34 @@ pub fn put_row(store: &mut [u16], place: Place, l: RelayList, from: usize)
     }
 }
 
-// Whether each number of a row is at most that of a limit. All of them are read: a loop with no way out is done many numbers at a time.
-fn within(row: &[u16], limit: &[u16]) -> bool
-    requires { ⌜ length (now limit) ≡ length (now row) ⌝ }
-    ensures { λ r. ⌜ Tells (Within (now (row .entry)) (now (limit .entry))) r ⌝ }
+// A row's numbers, as far as a mask lets their bits through, added bit by bit to what is gathered at each place. All of them are read:
+// a loop with no way out is done many numbers at a time.
+fn mark(over: &mut [u16], row: &[u16], mask: &[u16])
+    requires { ⌜ (length (now over) ≡ 32) × (length (now row) ≡ 32) × (length (now mask) ≡ 32) ⌝ }
+    ensures { λ _. ⌜ Marked (now (over .entry)) (now (row .entry)) (now (mask .entry)) (now (over .exit)) ⌝ }
 {
-    let mut ok = true;
     let mut j: usize = 0;
-    while j < row.len() {
-        ok = ok & (row[j] <= limit[j]);
+    while j < 32 {
+        over[j] = over[j] | (row[j] & mask[j]);
         j += 1;
     }
-    ok
 }
 
-// The limits of rows, over zeros.
-fn set_limits(limits: &mut [u16])
-    requires { ⌜ (length (now limits) ≡ 64) × ZeroFrom (now limits) 0 ⌝ }
-    ensures { λ _. ⌜ Limits (now (limits .exit)) ⌝ }
+// The masks of rows, over zeros.
+fn set_masks(masks: &mut [u16])
+    requires { ⌜ (length (now masks) ≡ 64) × ZeroFrom (now masks) 0 ⌝ }
+    ensures { λ _. ⌜ Masks (now (masks .exit)) ⌝ }
 {
-    let mut k: usize = 0;
-    while k < 32 {
-        limits[k] = 65535;
+    let mut k: usize = 32;
+    while k < 64 {
+        masks[k] = 65535;
         k += 1;
     }
 }
 
 // Whether a store agrees with a table, of which it takes the numbers of relays: 64 rows, each zero after the relays of its record.
-// A row of n relays is compared with n numbers that none passes and zeros after them.
+// A row of n relays is read through n masks that let nothing through and others that let all through. What comes through is gathered over
+// all rows, place by place, and looked at once, at the end.
 pub fn agrees(lengths: &[u8], store: &[u16]) -> bool
     requires { ⌜ length (now lengths) ≡ 64 ⌝ }
     ensures { λ r. ⌜ r ≡ agreesBy (now (lengths .entry)) (now (store .entry)) ⌝ }
@@ -159,9 +158,9 @@ pub fn agrees(lengths: &[u8], store: &[u16]) -> bool
     if store.len() != 2048 {
         return false;
     }
-    let mut limits: [u16; 64] = [0; 64];
-    set_limits(&mut limits);
-    let mut ok = true;
+    let mut masks: [u16; 64] = [0; 64];
+    set_masks(&mut masks);
+    let mut over: [u16; 32] = [0; 32];
     let mut i: usize = 0;
     while i < 64 {
         let mut n = lengths[i] as usize;
@@ -170,9 +169,12 @@ pub fn agrees(lengths: &[u8], store: &[u16]) -> bool
         }
         let start = 32 * i;
         let from = 32 - n;
-        let row = within(&store[start..start + 32], &limits[from..from + 32]);
-        ok = ok & row;
+        mark(
+            &mut over,
+            &store[start..start + 32],
+            &masks[from..from + 32],
+        );
         i += 1;
     }
-    ok
+    columns::zero_from16(&over, 0)
 }

@@ -2,6 +2,7 @@
 // A row of the inputs is eight numbers. The answers are added up, so that they can be compared with the Rust's.
 use link_status::LinkStatusCommand;
 use link_status_lent::Digested;
+use neighbor_calls::NwkOutcome;
 use neighbor_queries::LinkStatus;
 use neighbor_queries::NwkAnswer;
 use neighbors::Neighbors;
@@ -11,12 +12,6 @@ ghost use Rattle.neighbor_columns.specs.Table.{inColumns, WellFormed};
 ghost use Rattle.waiting_columns.specs.Table as waits;
 ghost use Rattle.neighbors.specs.State as state-of;
 ghost use Rattle.speed_links.specs.Command.{linkTo, eightLinks};
-
-// The state after a call, and what its answer adds to the sum.
-pub struct LinkTurn {
-    pub state: Neighbors,
-    pub weight: u64,
-}
 
 fn status(n: u8) -> LinkStatus
     ensures { λ r. ⌜ r ≡ linkTo n ⌝ }
@@ -59,8 +54,8 @@ fn link_weight(a: NwkAnswer) -> u64 {
 }
 
 // A link status: own, extended address, address, quality and the moment.
-fn link(state: Neighbors, command: LinkStatusCommand, row: &[u64]) -> LinkTurn {
-    let o = neighbor_calls::on_link_status(
+fn link(state: Neighbors, command: LinkStatusCommand, row: &[u64]) -> NwkOutcome {
+    neighbor_calls::on_link_status(
         state,
         numbers::nwk(row, 0),
         numbers::eui64(row, 1),
@@ -68,11 +63,7 @@ fn link(state: Neighbors, command: LinkStatusCommand, row: &[u64]) -> LinkTurn {
         numbers::byte(row, 3),
         command,
         numbers::at(row, 4),
-    );
-    let state = o.state;
-    let answer = o.answer;
-    let weight = link_weight(answer);
-    LinkTurn { state, weight }
+    )
 }
 
 // The neighbours 1 .. size, each a router.
@@ -99,7 +90,8 @@ pub fn links(state: Neighbors, inputs: &[u64]) -> u64 {
         let i = k * 8;
         let x = link(s, c, &inputs[i..i + 8]);
         s = x.state;
-        sum = std::num::wrapping_add_u64(sum, x.weight);
+        let answer = x.answer;
+        sum = std::num::wrapping_add_u64(sum, link_weight(answer));
         k += 1;
     }
     sum

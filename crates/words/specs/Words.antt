@@ -1,7 +1,7 @@
 -- The number of a word: the place of its line in the table, and where the shape of its numbers begins.
 -- The page of the language: "`bad` for a line that is no call (unknown word, a missing or extra or too large number)".
 -- Assumes nothing.
-use Prim.Native.Nat.{ℕ, zero, suc, _+_}
+use Prim.Native.Nat.{ℕ, _+_}
 use mathlib.Core.Bool.{Bool, true, cond}
 use mathlib.Core.List.{List, [], _∷_}
 use lib.Dec.{eqb, ltb}
@@ -50,21 +50,3 @@ calledIn text word args = calledAt text args (seek word 0 true 0 text)
 
 abbrev pub called : List ℕ → List ℕ → Meaning
 called word args = calledIn table word args
-
--- the text from a line on, counted from 0; nothing where there are fewer lines
-unfoldable pub lineAt : ℕ → List ℕ → List ℕ
-lineAt zero bs = bs
-lineAt (suc n) [] = []
-lineAt (suc n) (b ∷ bs) = cond (eqb b 10) (lineAt n bs) (lineAt (suc n) bs)
-
--- what follows the first space
-unfoldable pub afterSpace : List ℕ → List ℕ
-afterSpace [] = []
-afterSpace (b ∷ bs) = cond (eqb b 32) bs (afterSpace bs)
-
--- numbers that have the shape of the call of a number; none have where the number is no line's
-unfoldable pub shapedIn : List ℕ → ℕ → List ℕ → Bool
-shapedIn text n args = fitsShape (afterSpace (lineAt n text)) args
-
-abbrev pub shaped : ℕ → List ℕ → Bool
-shaped n args = shapedIn table n args

@@ -5,7 +5,7 @@ ghost use mathlib.Core.List.{List, [], _∷_};
 ghost use Prim.Native.Nat.{ℕ, _+_, _-_, _<_};
 ghost use lib.ListN.{drop};
 ghost use Rattle.words.specs.Shape.{isOption, isList, most, mostOfOthers, within, passes, passesMode, items, item, isEnd, fitsShape};
-ghost use Rattle.words.specs.Words.{past, tried, counted, seek, calledIn, called, lineAt, afterSpace, shapedIn, shaped};
+ghost use Rattle.words.specs.Words.{past, tried, counted, seek, calledIn, called};
 ghost use Rattle.words.specs.Fitting.{fitFrom, ahead};
 
 // A word and its shape on each line; a call's number is its line's, counted from 0.
@@ -411,58 +411,4 @@ pub fn called(word: &[u8], args: &[u64]) -> Meaning
     ensures { λ r. ⌜ r ≡ called (now (word .entry)) (now (args .entry)) ⌝ }
 {
     called_in(&TABLE, word, args)
-}
-
-// The lines that are still to pass: one less after a line feed.
-fn left_after(n: u64, over: bool) -> u64
-    requires { ⌜ 0 < n ⌝ }
-    ensures { λ r. ⌜ r ≡ n - cond over 1 0 ⌝ }
-{
-    if over { n - 1 } else { n }
-}
-
-// The place where a line begins, or the table's end.
-fn line_at(table: &[u8], number: u64) -> usize
-    ensures { λ r. ⌜ drop r (now (table .entry)) ≡ lineAt number (now (table .entry)) ⌝ }
-{
-    let mut left = number;
-    let mut at: usize = 0;
-    while at < table.len() {
-        if left == 0 {
-            return at;
-        }
-        left = left_after(left, table[at] == 10);
-        at += 1;
-    }
-    at
-}
-
-// The place after the next space, or the table's end.
-fn after_space(table: &[u8], from: usize) -> usize
-    ensures { λ r. ⌜ drop r (now (table .entry)) ≡ afterSpace (drop from (now (table .entry))) ⌝ }
-{
-    let mut at = from;
-    while at < table.len() {
-        if table[at] == 32 {
-            return at + 1;
-        }
-        at += 1;
-    }
-    at
-}
-
-// Whether numbers have the shape of a line.
-fn shaped_in(table: &[u8], number: u64, args: &[u64]) -> bool
-    ensures { λ r. ⌜ r ≡ shapedIn (now (table .entry)) number (now (args .entry)) ⌝ }
-{
-    let line = line_at(table, number);
-    let shape = after_space(table, line);
-    fits(table, shape, args)
-}
-
-// Whether numbers have the shape of the call of a number.
-pub fn shaped(number: u64, args: &[u64]) -> bool
-    ensures { λ r. ⌜ r ≡ shaped number (now (args .entry)) ⌝ }
-{
-    shaped_in(&TABLE, number, args)
 }

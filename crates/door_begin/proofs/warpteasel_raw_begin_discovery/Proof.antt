@@ -6,7 +6,7 @@ use Rattle.standard.specs.Route.{nwk}
 use Rattle.route_begin.specs.Answer.{BeginStep, begun}
 use Rattle.routing.specs.Search.{beginDiscovery}
 use Rattle.routing.specs.declared.Routing.{Routing}
-use Rattle.routing.specs.State.{rowsIn}
+use Rattle.routing.specs.State.{rowsIn, wellFormed}
 use Rattle.routing.proofs.State.{search-formed}
 use Rattle.door.specs.Lent.{Counters, lentWith, theId}
 use Rattle.door.proofs.Lent.{test-of, formed-of, formed-in, says-as, ill-made, rule-made}
@@ -38,7 +38,7 @@ same-length-6 c = search needs
 
 returns : tie.Need-returns
 unfolding beginDiscovery
-returns c = ill-made _ _ (test-of _ _ _ (λ _. c .before .columns-formed .ensures) (not-true _ (c .if1 .taken))) (λ _. refl) (λ _. record { status = refl; places = refl })
+returns c = ill-made wellFormed _ _ (test-of _ _ _ (λ _. c .before .columns-formed .ensures) (not-true _ (c .if1 .taken))) (λ _. refl) (λ _. record { status = refl; places = refl })
 
 next-id-requires : tie.Need-next-id-requires
 next-id-requires c κs = search needs
@@ -73,7 +73,7 @@ returns-2 c =
     let a = c .before .before .before .before .before .before .before .before .before .before .before .before .before .before .before .before .before .before .before .before .before .before .before .before .before .before .before .before .before .before .before .before .before .before .before .before .before .before .before .before .before .before .args in
     let s : Counters → Routing = lentWith (theId (a .request-sequence-number .now)) (a .route-keys .now) (a .route-words .now) (a .route-usage .now) (a .routes .now) (a .discovery-keys .now) (a .discovery-words .now) (a .discovery-ends .now) (a .discoveries .now) (a .record-keys .now) (a .record-lengths .now) (a .records) in
     let step : ℕ → BeginStep = λ (id : ℕ). begun (rowsIn (s (record { errors = 0; failures = 0; id = 0 }))) (nwk (a .own)) id (nwk (a .destination)) (a .now-ms) (a .route-discovery-time) in
-    rule-made _ _ (test-of s _ _ (λ _. c .before .before .before .before .before .before .before .before .before .before .before .before .before .before .before .before .before .before .before .before .before .before .before .before .before .columns-formed .ensures) (not-false _ (c .before .before .before .before .before .before .before .before .before .before .before .before .before .before .before .before .before .before .before .before .before .before .before .before .if1 .left)))
+    rule-made wellFormed _ _ (test-of s _ _ (λ _. c .before .before .before .before .before .before .before .before .before .before .before .before .before .before .before .before .before .before .before .before .before .before .before .before .before .columns-formed .ensures) (not-false _ (c .before .before .before .before .before .before .before .before .before .before .before .before .before .before .before .before .before .before .before .before .before .before .before .before .if1 .left)))
     (λ k. state-as (s k) step (c .before .before .before .before .before .before .before .before .before .before .before .before .before .before .before .before .before .before .before .before .before .before .next-id .result) (c .before .before .before .before .before .before .before .before .before .before .before .before .before .before .before .before .before .before .before .before .before .before .next-id .ensures) _ (c .before .before .before .before .before .before .before .before .before .before .before .before .before .before .before .begin .ensures .said) (formed-of (s k) _ (c .before .before .before .before .before .before .before .before .before .before .before .before .before .before .before .before .before .before .before .before .before .before .before .before .before .columns-formed .ensures) (not-false _ (c .before .before .before .before .before .before .before .before .before .before .before .before .before .before .before .before .before .before .before .before .before .before .before .before .if1 .left))) (begun-keeps (rowsIn (s k)) (nwk (a .own)) (c .before .before .before .before .before .before .before .before .before .before .before .before .before .before .before .before .before .before .before .before .before .before .next-id .result) (nwk (a .destination)) (a .now-ms) (a .route-discovery-time)) (c .before .before .before .before .before .before .before .before .before .before .before .before .before .before .before .begin .ensures .left) (c .say-begun .ensures .last))
     (λ k. says-as (answer-as (s k) step (c .before .before .before .before .before .before .before .before .before .before .before .before .before .before .before .before .before .before .before .before .before .before .next-id .result) (c .before .before .before .before .before .before .before .before .before .before .before .before .before .before .before .before .before .before .before .before .before .before .next-id .ensures) _ (c .before .before .before .before .before .before .before .before .before .before .before .before .before .before .before .begin .ensures .said)) (c .say-begun .ensures .said))
 

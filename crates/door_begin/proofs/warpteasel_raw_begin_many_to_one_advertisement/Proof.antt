@@ -6,7 +6,7 @@ use Rattle.standard.specs.Route.{nwk}
 use Rattle.route_begin.specs.Answer.{BeginStep, advertised}
 use Rattle.routing.specs.Search.{beginManyToOneAdvertisement}
 use Rattle.routing.specs.declared.Routing.{Routing}
-use Rattle.routing.specs.State.{rowsIn}
+use Rattle.routing.specs.State.{rowsIn, wellFormed}
 use Rattle.routing.proofs.State.{search-formed}
 use Rattle.door.specs.Lent.{Counters, lentWith, theId}
 use Rattle.door.proofs.Lent.{test-of, formed-of, formed-in, says-as, ill-made, rule-made}
@@ -40,7 +40,7 @@ same-length-6 c = search needs
 
 returns : tie.Need-returns
 unfolding beginManyToOneAdvertisement
-returns c = ill-made _ _ (test-of _ _ _ (λ _. c .before .columns-formed .ensures) (not-true _ (c .if1 .taken))) (λ _. refl) (λ _. record { status = refl; places = refl })
+returns c = ill-made wellFormed _ _ (test-of _ _ _ (λ _. c .before .columns-formed .ensures) (not-true _ (c .if1 .taken))) (λ _. refl) (λ _. record { status = refl; places = refl })
 
 next-id-requires : tie.Need-next-id-requires
 next-id-requires c κs = search needs
@@ -75,7 +75,7 @@ returns-2 c =
     let a = c .before .before .before .before .before .before .before .before .before .before .before .before .before .before .before .before .before .before .before .before .before .before .before .before .before .before .before .before .before .before .before .before .before .before .before .before .before .before .before .before .before .before .args in
     let s : Counters → Routing = lentWith (theId (a .request-sequence-number .now)) (a .route-keys .now) (a .route-words .now) (a .route-usage .now) (a .routes .now) (a .discovery-keys .now) (a .discovery-words .now) (a .discovery-ends .now) (a .discoveries .now) (a .record-keys .now) (a .record-lengths .now) (a .records) in
     let step : ℕ → BeginStep = λ (id : ℕ). advertised (rowsIn (s (record { errors = 0; failures = 0; id = 0 }))) (nwk (a .own)) id (a .now-ms) (a .route-discovery-time) in
-    rule-made _ _ (test-of s _ _ (λ _. c .before .before .before .before .before .before .before .before .before .before .before .before .before .before .before .before .before .before .before .before .before .before .before .before .before .columns-formed .ensures) (not-false _ (c .before .before .before .before .before .before .before .before .before .before .before .before .before .before .before .before .before .before .before .before .before .before .before .before .if1 .left)))
+    rule-made wellFormed _ _ (test-of s _ _ (λ _. c .before .before .before .before .before .before .before .before .before .before .before .before .before .before .before .before .before .before .before .before .before .before .before .before .before .columns-formed .ensures) (not-false _ (c .before .before .before .before .before .before .before .before .before .before .before .before .before .before .before .before .before .before .before .before .before .before .before .before .if1 .left)))
     (λ k. state-as (s k) step (c .before .before .before .before .before .before .before .before .before .before .before .before .before .before .before .before .before .before .before .before .before .before .next-id .result) (c .before .before .before .before .before .before .before .before .before .before .before .before .before .before .before .before .before .before .before .before .before .before .next-id .ensures) _ (c .before .before .before .before .before .before .before .before .before .before .before .before .before .before .before .advertise .ensures .said) (formed-of (s k) _ (c .before .before .before .before .before .before .before .before .before .before .before .before .before .before .before .before .before .before .before .before .before .before .before .before .before .columns-formed .ensures) (not-false _ (c .before .before .before .before .before .before .before .before .before .before .before .before .before .before .before .before .before .before .before .before .before .before .before .before .if1 .left))) (advertised-keeps (rowsIn (s k)) (nwk (a .own)) (c .before .before .before .before .before .before .before .before .before .before .before .before .before .before .before .before .before .before .before .before .before .before .next-id .result) (a .now-ms) (a .route-discovery-time)) (c .before .before .before .before .before .before .before .before .before .before .before .before .before .before .before .advertise .ensures .left) (c .say-begun .ensures .last))
     (λ k. says-as (answer-as (s k) step (c .before .before .before .before .before .before .before .before .before .before .before .before .before .before .before .before .before .before .before .before .before .before .next-id .result) (c .before .before .before .before .before .before .before .before .before .before .before .before .before .before .before .before .before .before .before .before .before .before .next-id .ensures) _ (c .before .before .before .before .before .before .before .before .before .before .before .before .before .before .before .advertise .ensures .said)) (c .say-begun .ensures .said))
 

@@ -2,6 +2,7 @@
 use mathlib.Core.Path.{refl, ap}
 use borrow.Author.Tests.{not-true, not-false}
 use Rattle.routing.specs.Queries.{hopOutcome, nextHop}
+use Rattle.routing.specs.State.{wellFormed}
 use Rattle.door.proofs.Lent.{test-of, formed-in, says-as, ill-asked, rule-asked}
 use borrow.Author.Needs.{needs}
 use Rattle.door_queries.proofs.warpteasel_raw_next_hop.Statement.{statement}
@@ -12,7 +13,7 @@ columns-formed-requires c κs = search needs
 
 returns : tie.Need-returns
 unfolding nextHop
-returns c = ill-asked _ _ (test-of _ _ _ (λ _. c .before .columns-formed .ensures) (not-true _ (c .if1 .taken))) (λ _. record { status = refl; places = refl })
+returns c = ill-asked wellFormed _ _ (test-of _ _ _ (λ _. c .before .columns-formed .ensures) (not-true _ (c .if1 .taken))) (λ _. record { status = refl; places = refl })
 
 next-hop-requires : tie.Need-next-hop-requires
 next-hop-requires c κs = formed-in _ _ _ _ (c .before .columns-formed .ensures) (not-false _ (c .if1 .left)) .routes
@@ -22,7 +23,7 @@ say-hop-requires c κs = search needs
 
 returns-2 : tie.Need-returns-2
 unfolding nextHop
-returns-2 c = rule-asked _ _ (test-of _ _ _ (λ _. c .before .before .before .before .before .columns-formed .ensures) (not-false _ (c .before .before .before .before .if1 .left))) (λ _. says-as (ap hopOutcome (c .before .before .before .next-hop .ensures)) (c .say-hop .ensures))
+returns-2 c = rule-asked wellFormed _ _ (test-of _ _ _ (λ _. c .before .before .before .before .before .columns-formed .ensures) (not-false _ (c .before .before .before .before .if1 .left))) (λ _. says-as (ap hopOutcome (c .before .before .before .next-hop .ensures)) (c .say-hop .ensures))
 
 pub warpteasel-raw-next-hop-spec : {M : Type 1} → statement M
 warpteasel-raw-next-hop-spec =

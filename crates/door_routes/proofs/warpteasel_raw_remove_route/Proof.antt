@@ -3,6 +3,7 @@ use mathlib.Core.Path.{refl, ap, _∙_}
 use borrow.Author.Tests.{not-true, not-false}
 use Rattle.numbers.specs.Said.{flagNumber}
 use Rattle.routing.specs.Routes.{removeRoute}
+use Rattle.routing.specs.State.{wellFormed}
 use Rattle.door.proofs.Lent.{test-of, formed-in, routes-left, ill-made, rule-made}
 use borrow.Author.Needs.{needs}
 use Rattle.door_routes.proofs.warpteasel_raw_remove_route.Statement.{statement}
@@ -22,7 +23,7 @@ same-length-3 c = search needs
 
 returns : tie.Need-returns
 unfolding removeRoute
-returns c = ill-made _ _ (test-of _ _ _ (λ _. c .before .columns-formed .ensures) (not-true _ (c .if1 .taken))) (λ _. refl) (λ _. record { status = refl; places = refl })
+returns c = ill-made wellFormed _ _ (test-of _ _ _ (λ _. c .before .columns-formed .ensures) (not-true _ (c .if1 .taken))) (λ _. refl) (λ _. record { status = refl; places = refl })
 
 remove-route-requires : tie.Need-remove-route-requires
 remove-route-requires c κs = formed-in _ _ _ _ (c .before .before .before .before .columns-formed .ensures) (not-false _ (c .before .before .before .if1 .left)) .routes
@@ -41,7 +42,7 @@ same-length-6 c = search needs
 
 returns-2 : tie.Need-returns-2
 unfolding removeRoute
-returns-2 c = rule-made _ _ (test-of _ _ _ (λ _. c .before .before .before .before .before .before .before .before .before .before .before .before .columns-formed .ensures) (not-false _ (c .before .before .before .before .before .before .before .before .before .before .before .if1 .left))) (λ _. routes-left _ _ _ _ _ _ _ (c .before .before .before .before .before .before .before .remove-route .ensures .left)) (λ _. record { status = refl; places = c .flag .ensures ∙ ap flagNumber (c .before .before .before .before .before .before .before .remove-route .ensures .said) })
+returns-2 c = rule-made wellFormed _ _ (test-of _ _ _ (λ _. c .before .before .before .before .before .before .before .before .before .before .before .before .columns-formed .ensures) (not-false _ (c .before .before .before .before .before .before .before .before .before .before .before .if1 .left))) (λ _. routes-left _ _ _ _ _ _ _ (c .before .before .before .before .before .before .before .remove-route .ensures .left)) (λ _. record { status = refl; places = c .flag .ensures ∙ ap flagNumber (c .before .before .before .before .before .before .before .remove-route .ensures .said) })
 
 pub warpteasel-raw-remove-route-spec : {M : Type 1} → statement M
 warpteasel-raw-remove-route-spec =

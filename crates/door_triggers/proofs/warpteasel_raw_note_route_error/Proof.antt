@@ -4,6 +4,7 @@ use borrow.Author.Tests.{not-true, not-false}
 use Rattle.numbers.specs.Said.{flagNumber}
 use Rattle.routing.specs.Queries.{noteRouteError, firesAt}
 use Rattle.door_triggers.proofs.Counted.{errors-left}
+use Rattle.routing.specs.State.{wellFormed}
 use Rattle.door.proofs.Lent.{test-of, ill-made, rule-made}
 use borrow.Author.Needs.{needs}
 use Rattle.door_triggers.proofs.warpteasel_raw_note_route_error.Statement.{statement}
@@ -14,7 +15,7 @@ columns-formed-requires c κs = search needs
 
 returns : tie.Need-returns
 unfolding noteRouteError
-returns c = ill-made _ _ (test-of _ _ _ (λ _. c .before .columns-formed .ensures) (not-true _ (c .if1 .taken))) (λ _. refl) (λ _. record { status = refl; places = refl })
+returns c = ill-made wellFormed _ _ (test-of _ _ _ (λ _. c .before .columns-formed .ensures) (not-true _ (c .if1 .taken))) (λ _. refl) (λ _. record { status = refl; places = refl })
 
 saturating-add-u8-requires : tie.Need-saturating-add-u8-requires
 saturating-add-u8-requires c κs = search needs
@@ -24,7 +25,7 @@ flag-requires c κs = search needs
 
 returns-2 : tie.Need-returns-2
 unfolding noteRouteError
-returns-2 c = rule-made _ _ (test-of _ _ _ (λ _. c .before .before .before .before .columns-formed .ensures) (not-false _ (c .before .before .before .if1 .left))) (λ _. errors-left _ _ _ _ _ _ _ (c .before .saturating-add-u8 .ensures)) (λ _. record { status = refl; places = c .flag .ensures ∙ ap (λ n. flagNumber (firesAt n (c .before .before .before .before .before .before .before .before .before .before .before .before .before .args .threshold))) (c .before .saturating-add-u8 .ensures) })
+returns-2 c = rule-made wellFormed _ _ (test-of _ _ _ (λ _. c .before .before .before .before .columns-formed .ensures) (not-false _ (c .before .before .before .if1 .left))) (λ _. errors-left _ _ _ _ _ _ _ (c .before .saturating-add-u8 .ensures)) (λ _. record { status = refl; places = c .flag .ensures ∙ ap (λ n. flagNumber (firesAt n (c .before .before .before .before .before .before .before .before .before .before .before .before .before .args .threshold))) (c .before .saturating-add-u8 .ensures) })
 
 pub warpteasel-raw-note-route-error-spec : {M : Type 1} → statement M
 warpteasel-raw-note-route-error-spec =

@@ -2,6 +2,7 @@
 use mathlib.Core.Path.{refl}
 use borrow.Author.Tests.{not-true, not-false}
 use Rattle.routing.specs.Routes.{invalidateVia}
+use Rattle.routing.specs.State.{wellFormed}
 use Rattle.door.proofs.Lent.{test-of, formed-in, routes-left, ill-made, rule-made}
 use borrow.Author.Needs.{needs}
 use Rattle.door_usage.proofs.warpteasel_raw_invalidate_via.Statement.{statement}
@@ -15,7 +16,7 @@ same-length c = search needs
 
 returns : tie.Need-returns
 unfolding invalidateVia
-returns c = ill-made _ _ (test-of _ _ _ (λ _. c .before .columns-formed .ensures) (not-true _ (c .if1 .taken))) (λ _. refl) (λ _. record { status = refl; places = refl })
+returns c = ill-made wellFormed _ _ (test-of _ _ _ (λ _. c .before .columns-formed .ensures) (not-true _ (c .if1 .taken))) (λ _. refl) (λ _. record { status = refl; places = refl })
 
 invalidate-via-requires : tie.Need-invalidate-via-requires
 invalidate-via-requires c κs = formed-in _ _ _ _ (c .before .before .columns-formed .ensures) (not-false _ (c .before .if1 .left)) .routes
@@ -25,7 +26,7 @@ same-length-2 c = search needs
 
 returns-2 : tie.Need-returns-2
 unfolding invalidateVia
-returns-2 c = rule-made _ _ (test-of _ _ _ (λ _. c .before .before .before .before .before .columns-formed .ensures) (not-false _ (c .before .before .before .before .if1 .left))) (λ _. routes-left _ _ _ _ _ _ _ (c .before .before .invalidate-via .ensures)) (λ _. record { status = refl; places = refl })
+returns-2 c = rule-made wellFormed _ _ (test-of _ _ _ (λ _. c .before .before .before .before .before .columns-formed .ensures) (not-false _ (c .before .before .before .before .if1 .left))) (λ _. routes-left _ _ _ _ _ _ _ (c .before .before .invalidate-via .ensures)) (λ _. record { status = refl; places = refl })
 
 pub warpteasel-raw-invalidate-via-spec : {M : Type 1} → statement M
 warpteasel-raw-invalidate-via-spec =

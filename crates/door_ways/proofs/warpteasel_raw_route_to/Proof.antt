@@ -7,6 +7,7 @@ use Rattle.route_record.specs.declared.RecordWay.{RecordWay}
 use Rattle.route_table.specs.Table.{inColumns, rowsOf}
 use Rattle.standard.specs.Route.{nwk}
 use Rattle.routing.specs.Records.{answerIn, routeTo}
+use Rattle.routing.specs.State.{wellFormed}
 use Rattle.door.proofs.Lent.{test-of, formed-in, says-as, ill-asked, rule-asked}
 use Rattle.door_ways.specs.Ways.{beside}
 use borrow.Author.Needs.{needs}
@@ -21,14 +22,14 @@ columns-formed-requires c κs = search needs
 
 returns-2 : tie.Need-returns-2
 unfolding routeTo
-returns-2 c = record { call = λ _. ill-asked _ _ (test-of _ _ _ (λ _. c .before .columns-formed .ensures) (not-true _ (c .if2 .taken))) (λ _. record { status = refl; places = refl }); none = λ n. absurd (n (c .before .before .if1 .left)) }
+returns-2 c = record { call = λ _. ill-asked wellFormed _ _ (test-of _ _ _ (λ _. c .before .columns-formed .ensures) (not-true _ (c .if2 .taken))) (λ _. record { status = refl; places = refl }); none = λ n. absurd (n (c .before .before .if1 .left)) }
 
 agrees-requires : tie.Need-agrees-requires
 agrees-requires c κs = (formed-in _ _ _ _ (c .before .columns-formed .ensures) (not-false _ (c .if2 .left))) .records .ordered .long .1 .0
 
 returns-3 : tie.Need-returns-3
 unfolding routeTo
-returns-3 c = record { call = λ _. rule-asked _ _ (test-of _ _ _ (λ _. c .before .before .before .columns-formed .ensures) (not-false _ (c .before .before .if2 .left))) (λ _. rw (sym (c .before .agrees .ensures) ∙ not-true _ (c .if3 .taken)) (record { status = refl; places = refl })); none = λ n. absurd (n (c .before .before .before .before .if1 .left)) }
+returns-3 c = record { call = λ _. rule-asked wellFormed _ _ (test-of _ _ _ (λ _. c .before .before .before .columns-formed .ensures) (not-false _ (c .before .before .if2 .left))) (λ _. rw (sym (c .before .agrees .ensures) ∙ not-true _ (c .if3 .taken)) (record { status = refl; places = refl })); none = λ n. absurd (n (c .before .before .before .before .if1 .left)) }
 
 way-to-requires : tie.Need-way-to-requires
 way-to-requires c κs = record { formed = (formed-in _ _ _ _ (c .before .before .before .columns-formed .ensures) (not-false _ (c .before .before .if2 .left))) .records; agrees = agrees-told _ _ .fact (sym (c .before .agrees .ensures) ∙ not-false _ (c .if3 .left)) }
@@ -44,7 +45,7 @@ unfolding routeTo
 returns-4 c =
     let a = c .before .before .before .before .before .before .before .before .before .before .before .before .before .before .before .before .before .before .before .before .before .before .before .before .args in
     record {
-      call = λ _. rule-asked _ _ (test-of _ _ _ (λ _. c .before .before .before .before .before .before .before .before .before .before .before .before .columns-formed .ensures) (not-false _ (c .before .before .before .before .before .before .before .before .before .before .before .if2 .left))) (λ _. rw (sym (c .before .before .before .before .before .before .before .before .before .before .agrees .ensures) ∙ not-false _ (c .before .before .before .before .before .before .before .before .before .if3 .left)) (says-as (ap (λ (w : RecordWay). beside (answerIn (rowsOf (inColumns (a .route-keys .now) (a .route-words .now) (a .route-usage .now) (a .routes))) (nwk (a .destination)) (w .route)) (w .relays)) (c .before .before .before .before .before .before .before .before .way-to .ensures)) (c .before .before .say-way .ensures)));
+      call = λ _. rule-asked wellFormed _ _ (test-of _ _ _ (λ _. c .before .before .before .before .before .before .before .before .before .before .before .before .columns-formed .ensures) (not-false _ (c .before .before .before .before .before .before .before .before .before .before .before .if2 .left))) (λ _. rw (sym (c .before .before .before .before .before .before .before .before .before .before .agrees .ensures) ∙ not-false _ (c .before .before .before .before .before .before .before .before .before .if3 .left)) (says-as (ap (λ (w : RecordWay). beside (answerIn (rowsOf (inColumns (a .route-keys .now) (a .route-words .now) (a .route-usage .now) (a .routes))) (nwk (a .destination)) (w .route)) (w .relays)) (c .before .before .before .before .before .before .before .before .way-to .ensures)) (c .before .before .say-way .ensures)));
       none = λ n. absurd (n (c .before .before .before .before .before .before .before .before .before .before .before .before .before .if1 .left));
     }
 

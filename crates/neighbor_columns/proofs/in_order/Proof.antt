@@ -47,8 +47,8 @@ returns c =
 returns-2 : tie.Need-returns-2
 returns-2 c = not-so (λ o. omega (arith, c .if2 .taken, o .small))
 
-rising-requires : tie.Need-rising-requires
-rising-requires c κs =
+rising64-requires : tie.Need-rising64-requires
+rising64-requires c κs =
     let a = c .before .before .before .before .before .before .before .before .before .before .before .before .before .before .before .before .before .before .before .before .before .before .args in
     let t = inColumns (a .keys .now) (a .nwks .now) (a .links .now) (a .counts .now) (a .deadlines .now) (a .periods .now) (a .heard .now) (a .added .now) (a .beacons .now) (a .bytes .now) (a .count) in
     let told = all-end-told t (c .before .before .before .before .before .before .before .before .before .before .before .ends64 .ensures) (c .before .before .before .before .before .before .before .before .before .before .ends16 .ensures) (c .before .before .before .before .before .before .before .before .before .ends642 .ensures) (c .before .before .before .before .before .before .before .before .ends643 .ensures) (c .before .before .before .before .before .before .before .ends644 .ensures) (c .before .before .before .before .before .before .ends645 .ensures) (c .before .before .before .before .before .ends646 .ensures) (c .before .before .before .before .ends647 .ensures) (c .before .before .before .ends648 .ensures) (c .before .before .ends649 .ensures) in
@@ -59,7 +59,7 @@ returns-3 c =
     let a = c .before .before .before .before .before .before .before .before .before .before .before .before .before .before .before .before .before .before .before .before .before .before .before .args in
     let t = inColumns (a .keys .now) (a .nwks .now) (a .links .now) (a .counts .now) (a .deadlines .now) (a .periods .now) (a .heard .now) (a .added .now) (a .beacons .now) (a .bytes .now) (a .count) in
     let told = all-end-told t (c .before .before .before .before .before .before .before .before .before .before .before .before .ends64 .ensures) (c .before .before .before .before .before .before .before .before .before .before .before .ends16 .ensures) (c .before .before .before .before .before .before .before .before .before .before .ends642 .ensures) (c .before .before .before .before .before .before .before .before .before .ends643 .ensures) (c .before .before .before .before .before .before .before .before .ends644 .ensures) (c .before .before .before .before .before .before .before .ends645 .ensures) (c .before .before .before .before .before .before .ends646 .ensures) (c .before .before .before .before .before .ends647 .ensures) (c .before .before .before .before .ends648 .ensures) (c .before .before .before .ends649 .ensures) in
-    order-told t (told .fact (not-no _ (c .before .before .if1 .left))) (omega (arith, c .before .if2 .left)) (c .rising .ensures)
+    order-told t (told .fact (not-no _ (c .before .before .if1 .left))) (omega (arith, c .before .if2 .left)) (c .rising64 .ensures)
 
 pub in-order-spec : {M : Type 1} → statement M
 in-order-spec =
@@ -77,5 +77,5 @@ in-order-spec =
     ends64-requires-9
     returns
     returns-2
-    rising-requires
+    rising64-requires
     returns-3)

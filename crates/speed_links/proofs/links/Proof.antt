@@ -37,6 +37,9 @@ part-link-end c = search needs
 link-requires : tie.Need-link-requires Inv-loop μ-loop
 link-requires c κs = search needs
 
+link-weight-requires : tie.Need-link-weight-requires Inv-loop μ-loop
+link-weight-requires c κs = search needs
+
 wrapping-add-u64-requires : tie.Need-wrapping-add-u64-requires Inv-loop μ-loop
 wrapping-add-u64-requires c κs = search needs
 
@@ -67,6 +70,7 @@ links-spec =
     part-link-start
     part-link-end
     link-requires
+    link-weight-requires
     wrapping-add-u64-requires
     add-k
     loop-less

@@ -3,6 +3,7 @@ use mathlib.Core.Path.{refl}
 use borrow.Author.Tests.{not-true, not-false}
 use Rattle.routing.specs.Search.{acceptRouteReply}
 use Rattle.routing.proofs.State.{search-formed}
+use Rattle.routing.specs.State.{wellFormed}
 use Rattle.door.proofs.Lent.{test-of, formed-in, says-as, search-left, ill-made, rule-made}
 use borrow.Author.Needs.{needs}
 use Rattle.door_search.proofs.reply.warpteasel_raw_accept_route_reply.Statement.{statement}
@@ -28,7 +29,7 @@ same-length-5 c = search needs
 
 returns : tie.Need-returns
 unfolding acceptRouteReply
-returns c = ill-made _ _ (test-of _ _ _ (λ _. c .before .columns-formed .ensures) (not-true _ (c .if1 .taken))) (λ _. refl) (λ _. record { status = refl; places = refl })
+returns c = ill-made wellFormed _ _ (test-of _ _ _ (λ _. c .before .columns-formed .ensures) (not-true _ (c .if1 .taken))) (λ _. refl) (λ _. record { status = refl; places = refl })
 
 reply-requires : tie.Need-reply-requires
 reply-requires c κs = search-formed _ (formed-in _ _ _ _ (c .before .before .before .before .before .before .columns-formed .ensures) (not-false _ (c .before .before .before .before .before .if1 .left)))
@@ -53,7 +54,7 @@ same-length-10 c = search needs
 
 returns-2 : tie.Need-returns-2
 unfolding acceptRouteReply
-returns-2 c = rule-made _ _ (test-of _ _ _ (λ _. c .before .before .before .before .before .before .before .before .before .before .before .before .before .before .before .before .before .before .before .before .before .before .before .before .before .columns-formed .ensures) (not-false _ (c .before .before .before .before .before .before .before .before .before .before .before .before .before .before .before .before .before .before .before .before .before .before .before .before .if1 .left))) (λ _. search-left _ _ _ _ _ _ (c .before .before .before .before .before .before .before .before .before .before .before .before .before .before .before .before .before .before .reply .ensures .left)) (λ _. says-as (c .before .before .before .before .before .before .before .before .before .before .before .before .before .before .before .before .before .before .reply .ensures .said) (c .say-reply .ensures))
+returns-2 c = rule-made wellFormed _ _ (test-of _ _ _ (λ _. c .before .before .before .before .before .before .before .before .before .before .before .before .before .before .before .before .before .before .before .before .before .before .before .before .before .columns-formed .ensures) (not-false _ (c .before .before .before .before .before .before .before .before .before .before .before .before .before .before .before .before .before .before .before .before .before .before .before .before .if1 .left))) (λ _. search-left _ _ _ _ _ _ (c .before .before .before .before .before .before .before .before .before .before .before .before .before .before .before .before .before .before .reply .ensures .left)) (λ _. says-as (c .before .before .before .before .before .before .before .before .before .before .before .before .before .before .before .before .before .before .reply .ensures .said) (c .say-reply .ensures))
 
 pub warpteasel-raw-accept-route-reply-spec : {M : Type 1} → statement M
 warpteasel-raw-accept-route-reply-spec =

@@ -4,6 +4,7 @@ use mathlib.Core.Path.{refl, sym, ap, _∙_}
 use borrow.Author.Tests.{not-true, not-false}
 use Rattle.routing.specs.Search.{acceptRouteRequest}
 use Rattle.routing.proofs.State.{search-formed}
+use Rattle.routing.specs.State.{wellFormed}
 use Rattle.door.proofs.Lent.{test-of, formed-in, says-as, search-left, ill-made, rule-made}
 use borrow.Author.Needs.{needs}
 use Rattle.door_search.proofs.request.warpteasel_raw_accept_route_request.Statement.{
@@ -37,7 +38,7 @@ same-length-6 c = search needs
 
 returns-2 : tie.Need-returns-2
 unfolding acceptRouteRequest
-returns-2 c = record { call = λ _. ill-made _ _ (test-of _ _ _ (λ _. c .before .columns-formed .ensures) (not-true _ (c .if2 .taken))) (λ _. refl) (λ _. record { status = refl; places = refl }); none = λ h. absurd (omega (arith, c .before .before .before .before .before .before .before .before .before .before .if1 .left)) }
+returns-2 c = record { call = λ _. ill-made wellFormed _ _ (test-of _ _ _ (λ _. c .before .columns-formed .ensures) (not-true _ (c .if2 .taken))) (λ _. refl) (λ _. record { status = refl; places = refl }); none = λ h. absurd (omega (arith, c .before .before .before .before .before .before .before .before .before .before .if1 .left)) }
 
 many-to-one-requires : tie.Need-many-to-one-requires
 many-to-one-requires c κs = search needs
@@ -68,7 +69,7 @@ same-length-12 c = search needs
 
 returns-3 : tie.Need-returns-3
 unfolding acceptRouteRequest
-returns-3 c = record { call = λ _. rule-made _ _ (test-of _ _ _ (λ _. c .before .before .before .before .before .before .before .before .before .before .before .before .before .before .before .before .before .before .before .before .before .before .before .before .before .before .before .columns-formed .ensures) (not-false _ (c .before .before .before .before .before .before .before .before .before .before .before .before .before .before .before .before .before .before .before .before .before .before .before .before .before .before .if2 .left))) (λ _. search-left _ _ _ _ _ _ (rw (c .before .before .before .before .before .before .before .before .before .before .before .before .before .before .before .before .before .before .before .before .before .before .before .before .before .many-to-one .ensures) at (c .before .before .before .before .before .before .before .before .before .before .before .before .before .before .before .before .before .before .request .ensures .left))) (λ _. says-as (rw (c .before .before .before .before .before .before .before .before .before .before .before .before .before .before .before .before .before .before .before .before .before .before .before .before .before .many-to-one .ensures) at (c .before .before .before .before .before .before .before .before .before .before .before .before .before .before .before .before .before .before .request .ensures .said)) (c .say-request .ensures)); none = λ h. absurd (omega (arith, c .before .before .before .before .before .before .before .before .before .before .before .before .before .before .before .before .before .before .before .before .before .before .before .before .before .before .before .before .before .before .before .before .before .before .before .before .if1 .left)) }
+returns-3 c = record { call = λ _. rule-made wellFormed _ _ (test-of _ _ _ (λ _. c .before .before .before .before .before .before .before .before .before .before .before .before .before .before .before .before .before .before .before .before .before .before .before .before .before .before .before .columns-formed .ensures) (not-false _ (c .before .before .before .before .before .before .before .before .before .before .before .before .before .before .before .before .before .before .before .before .before .before .before .before .before .before .if2 .left))) (λ _. search-left _ _ _ _ _ _ (rw (c .before .before .before .before .before .before .before .before .before .before .before .before .before .before .before .before .before .before .before .before .before .before .before .before .before .many-to-one .ensures) at (c .before .before .before .before .before .before .before .before .before .before .before .before .before .before .before .before .before .before .request .ensures .left))) (λ _. says-as (rw (c .before .before .before .before .before .before .before .before .before .before .before .before .before .before .before .before .before .before .before .before .before .before .before .before .before .many-to-one .ensures) at (c .before .before .before .before .before .before .before .before .before .before .before .before .before .before .before .before .before .before .request .ensures .said)) (c .say-request .ensures)); none = λ h. absurd (omega (arith, c .before .before .before .before .before .before .before .before .before .before .before .before .before .before .before .before .before .before .before .before .before .before .before .before .before .before .before .before .before .before .before .before .before .before .before .before .if1 .left)) }
 
 pub warpteasel-raw-accept-route-request-spec : {M : Type 1} → statement M
 warpteasel-raw-accept-route-request-spec =

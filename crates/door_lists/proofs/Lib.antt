@@ -1,0 +1,4 @@
+pub mod Written
+pub mod Given
+pub mod Made
+pub mod Refused

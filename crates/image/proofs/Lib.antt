@@ -1,4 +1,0 @@
-pub mod Back
-pub mod Lengths
-pub mod Within
-pub mod Kept
