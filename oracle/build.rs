@@ -76,16 +76,19 @@ fn main() {
     link_speed();
 }
 
-/// The benchmark alone links the static library `speed`; `ORACLE_SPEED` names its directory.
+/// The benchmark alone links the static library `speed` and that for gateways, with the loops over its C header: `ORACLE_SPEED` names the directory
+/// of libspeed.a, liblinked.a and libwarpteasel.a.
 fn link_speed() {
     println!("cargo:rerun-if-env-changed=ORACLE_SPEED");
     if env::var_os("CARGO_FEATURE_BENCH").is_none() {
         return;
     }
     let Some(directory) = env::var_os("ORACLE_SPEED").map(PathBuf::from) else {
-        stop("ORACLE_SPEED names no directory of libspeed.a; oracle/bench sets it");
+        stop("ORACLE_SPEED names no directory of the libraries to time; oracle/bench sets it");
     };
-    let archive = directory.join("libspeed.a");
-    println!("cargo:rerun-if-changed={}", archive.display());
-    println!("cargo:rustc-link-arg-bin=bench={}", archive.display());
+    for name in ["libspeed.a", "liblinked.a", "libwarpteasel.a"] {
+        let archive = directory.join(name);
+        println!("cargo:rerun-if-changed={}", archive.display());
+        println!("cargo:rustc-link-arg-bin=bench={}", archive.display());
+    }
 }

@@ -1,9 +1,22 @@
-// Where the static library is: the folder named by WARPTEASEL_LIB. A new library is linked anew.
+//! Finds the static library: in the folder that WARPTEASEL_LIB names, else where `gateway/build` puts it.
+
+use std::env;
+use std::path::{Path, PathBuf};
+use std::process::exit;
+
 fn main() {
     println!("cargo:rerun-if-env-changed=WARPTEASEL_LIB");
-    if let Ok(folder) = std::env::var("WARPTEASEL_LIB") {
-        println!("cargo:rerun-if-changed={folder}/libgateway.a");
-        println!("cargo:rustc-link-search=native={folder}");
+    let project = Path::new(env!("CARGO_MANIFEST_DIR")).ancestors().nth(2).unwrap_or(Path::new("/"));
+    let folder = env::var_os("WARPTEASEL_LIB").map_or(project.join("target/warpteasel"), PathBuf::from);
+    let library = folder.join("libwarpteasel.a");
+    println!("cargo:rerun-if-changed={}", library.display());
+    if !library.is_file() {
+        eprintln!(
+            "warpteasel: there is no {}; make it with gateway/build, or name its folder in WARPTEASEL_LIB",
+            library.display()
+        );
+        exit(1);
     }
-    println!("cargo:rustc-link-lib=static=gateway");
+    println!("cargo:rustc-link-search=native={}", folder.display());
+    println!("cargo:rustc-link-lib=static=warpteasel");
 }

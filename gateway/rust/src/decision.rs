@@ -1,23 +1,12 @@
-//! The decision on a frame's next hop: what it reads and what it answers.
+//! The decision on the next hop of a frame, and the bit that a router clears for its children.
 
-use crate::values::{push_addresses, push_option, Values};
-use crate::Refusal;
+use crate::lent::{call, numbers, status};
+use crate::routing::{addresses, MAX_RELAYS};
+use crate::{Neighbors, Nwk, Refusal, RelayStore, Routing};
 
-/// What a frame carries.
-#[derive(Clone, Copy, Debug, Default, PartialEq, Eq)]
-pub enum FrameType {
-    /// Data.
-    #[default]
-    Data,
-    /// A command of the network layer.
-    Command,
-    /// A frame of another network.
-    Interpan,
-}
-
-/// Whether a route may be discovered for a frame.
-#[derive(Clone, Copy, Debug, Default, PartialEq, Eq)]
-pub enum Discover {
+/// Whether a route may be searched for, for a frame: the discover route field of its frame control.
+#[derive(Clone, Copy, Debug, Default, PartialEq, Eq, Hash)]
+pub enum RouteDiscovery {
     /// No.
     #[default]
     Suppress,
@@ -27,168 +16,81 @@ pub enum Discover {
     WithMulticast,
 }
 
+impl RouteDiscovery {
+    const fn of(number: u8) -> Self {
+        match number {
+            0 => Self::Suppress,
+            1 => Self::Enable,
+            _ => Self::WithMulticast,
+        }
+    }
+}
+
 /// The source route of a header.
 #[derive(Clone, Debug, Default, PartialEq, Eq)]
 pub struct SourceRoute {
     /// The place of the relay that is to come.
     pub relay_index: u8,
-    /// The relays, the one next to the destination first.
-    pub relays: Vec<u16>,
+    /// The relays, the one next to the destination first, at most 32.
+    pub relays: Vec<Nwk>,
 }
 
-/// A network header. `Header::default()` has every field at 0 and nothing optional.
+/// The fields of a network header that a decision reads or changes. A caller has more of them; the others stay as they
+/// are.
 #[derive(Clone, Debug, Default, PartialEq, Eq)]
 pub struct Header {
-    /// What the frame carries.
-    pub frame_type: FrameType,
-    /// At most 15.
-    pub protocol_version: u8,
-    /// Whether a route may be discovered.
-    pub discover_route: Discover,
-    /// The bit of a multicast.
-    pub multicast: bool,
-    /// The bit of the security header.
-    pub security: bool,
-    /// The bit of the source route, a field of its own.
-    pub source_route_bit: bool,
-    /// The bit of the destination's extended address.
-    pub destination_bit: bool,
-    /// The bit of the source's extended address.
-    pub extended_source_bit: bool,
-    /// The bit of an end device that sends.
-    pub end_device_initiator: bool,
-    /// At most 3.
-    pub reserved1: u8,
     /// Whom the frame is for.
-    pub destination: u16,
+    pub destination: Nwk,
     /// Whom it is from.
-    pub source: u16,
-    /// How many hops it may still go.
-    pub radius: u8,
-    /// Its number.
-    pub sequence_number: u8,
-    /// The destination's extended address, its first byte over the air the most significant.
-    pub destination_ieee: Option<u64>,
-    /// The source's.
-    pub source_ieee: Option<u64>,
-    /// The control byte of a multicast.
-    pub multicast_control: Option<u8>,
+    pub source: Nwk,
+    /// Whether a route may be searched for.
+    pub discover_route: RouteDiscovery,
+    /// The bit of the frame control that says that there is a source route.
+    pub source_route_bit: bool,
+    /// The bit of the frame control that says that an end device has sent the frame.
+    pub end_device_initiator: bool,
     /// The source route.
     pub source_route: Option<SourceRoute>,
 }
 
-impl Header {
-    fn push_control(&self, numbers: &mut Vec<u64>) {
-        numbers.push(match self.frame_type {
-            FrameType::Data => 0,
-            FrameType::Command => 1,
-            FrameType::Interpan => 3,
-        });
-        numbers.push(self.protocol_version.into());
-        numbers.push(self.discover_route as u64);
-        let bits = [
-            self.multicast,
-            self.security,
-            self.source_route_bit,
-            self.destination_bit,
-            self.extended_source_bit,
-            self.end_device_initiator,
-        ];
-        numbers.extend(bits.map(u64::from));
-        numbers.push(self.reserved1.into());
-    }
-
-    pub(crate) fn push(&self, numbers: &mut Vec<u64>) {
-        self.push_control(numbers);
-        numbers.extend([
-            u64::from(self.destination),
-            self.source.into(),
-            self.radius.into(),
-            self.sequence_number.into(),
-        ]);
-        push_option(numbers, self.destination_ieee);
-        push_option(numbers, self.source_ieee);
-        push_option(numbers, self.multicast_control.map(u64::from));
-        match &self.source_route {
-            None => numbers.push(0),
-            Some(route) => {
-                numbers.extend([1, route.relay_index.into()]);
-                push_addresses(numbers, &route.relays);
-            }
-        }
-    }
-
-    pub(crate) fn read(v: &mut Values) -> Result<Self, Refusal> {
-        Ok(Header {
-            frame_type: match v.number()? {
-                0 => FrameType::Data,
-                1 => FrameType::Command,
-                3 => FrameType::Interpan,
-                _ => return Err(Refusal::Unknown),
-            },
-            protocol_version: v.byte()?,
-            discover_route: match v.number()? {
-                0 => Discover::Suppress,
-                1 => Discover::Enable,
-                2 => Discover::WithMulticast,
-                _ => return Err(Refusal::Unknown),
-            },
-            multicast: v.flag()?,
-            security: v.flag()?,
-            source_route_bit: v.flag()?,
-            destination_bit: v.flag()?,
-            extended_source_bit: v.flag()?,
-            end_device_initiator: v.flag()?,
-            reserved1: v.byte()?,
-            destination: v.address()?,
-            source: v.address()?,
-            radius: v.byte()?,
-            sequence_number: v.byte()?,
-            destination_ieee: v.option(|v| v.number())?,
-            source_ieee: v.option(|v| v.number())?,
-            multicast_control: v.option(|v| v.byte())?,
-            source_route: v.option(|v| Ok(SourceRoute { relay_index: v.byte()?, relays: v.addresses()? }))?,
-        })
-    }
+/// A route that the host gives for one frame.
+#[derive(Clone, Copy, Debug, PartialEq, Eq)]
+pub enum HostRoute<'a> {
+    /// By this next hop, which finds the way from there.
+    NextHop(Nwk),
+    /// By these relays, the one next to the destination first, at most 32.
+    SourceRoute(&'a [Nwk]),
 }
 
 /// How a frame is to be sent.
-#[derive(Clone, Debug, PartialEq, Eq)]
-pub enum Mode {
-    /// Straight to the destination.
+#[derive(Clone, Copy, Debug, PartialEq, Eq)]
+pub enum SendMode<'a> {
+    /// Straight to its destination.
     Direct,
     /// As the tables say.
     StackDecides,
-    /// By this next hop, where the tables know no other way.
-    HintNextHop(u16),
-    /// By these relays, where the tables know no other way.
-    HintSourceRoute(Vec<u16>),
-    /// By this next hop.
-    ForceNextHop(u16),
-    /// By these relays.
-    ForceSourceRoute(Vec<u16>),
+    /// By this route where the tables know none.
+    Hint(HostRoute<'a>),
+    /// By this route, whatever the tables know.
+    Force(HostRoute<'a>),
 }
 
-impl Mode {
-    pub(crate) fn push(&self, numbers: &mut Vec<u64>) {
-        match self {
-            Mode::Direct => numbers.push(0),
-            Mode::StackDecides => numbers.push(1),
-            Mode::HintNextHop(hop) => numbers.extend([2, (*hop).into()]),
-            Mode::HintSourceRoute(relays) => {
-                numbers.push(3);
-                push_addresses(numbers, relays);
-            }
-            Mode::ForceNextHop(hop) => numbers.extend([4, (*hop).into()]),
-            Mode::ForceSourceRoute(relays) => {
-                numbers.push(5);
-                push_addresses(numbers, relays);
-            }
+impl SendMode<'_> {
+    /// The mode as numbers: which, the host's hop and the host's relays.
+    fn numbers(&self) -> (u8, u16, &[Nwk]) {
+        match *self {
+            SendMode::Direct => (0, 0, &[]),
+            SendMode::StackDecides => (1, 0, &[]),
+            SendMode::Hint(HostRoute::NextHop(hop)) => (2, hop.0, &[]),
+            SendMode::Hint(HostRoute::SourceRoute(relays)) => (3, 0, relays),
+            SendMode::Force(HostRoute::NextHop(hop)) => (4, hop.0, &[]),
+            SendMode::Force(HostRoute::SourceRoute(relays)) => (5, 0, relays),
         }
     }
 }
 
-/// The settings that a decision reads.
+/// The settings that a decision reads. `Policy::default()` is a concentrator with source routes of fewer than 12
+/// relays.
 #[derive(Clone, Copy, Debug, PartialEq, Eq)]
 pub struct Policy {
     /// Whether route records are kept, and frames sent by them.
@@ -199,34 +101,161 @@ pub struct Policy {
     pub max_source_route: u8,
 }
 
+impl Default for Policy {
+    fn default() -> Self {
+        Policy { is_concentrator: true, force_route_discovery: false, max_source_route: 12 }
+    }
+}
+
 /// What is decided of a frame.
 #[derive(Clone, Copy, Debug, PartialEq, Eq)]
-pub enum Hop {
-    /// It goes to this next hop.
-    Resolved(u16),
+#[must_use]
+pub enum NextHop {
+    /// It goes to this neighbor.
+    Resolved(Nwk),
     /// A route has to be searched for first.
     NeedDiscovery,
-    /// It is thrown away.
+    /// It is thrown away: no route is known, and none may be searched for.
     Discard,
 }
 
-/// The decision, and the header that the frame goes with.
-#[derive(Clone, Debug, PartialEq, Eq)]
-pub struct Decision {
-    /// What is decided.
-    pub hop: Hop,
-    /// The header, with a source route or without one.
-    pub header: Header,
+/// The numbers of a header that the library is lent, and what it decides.
+#[derive(Default)]
+struct Places {
+    discover_route: u8,
+    source_route: u8,
+    has_source_route: u8,
+    relay_index: u8,
+    relay_count: usize,
+    relays: [u16; MAX_RELAYS],
+    decision: u8,
+    next_hop: u16,
 }
 
-impl Decision {
-    pub(crate) fn read(v: &mut Values) -> Result<Self, Refusal> {
-        let hop = match v.number()? {
-            0 => Hop::Resolved(v.address()?),
-            1 => Hop::NeedDiscovery,
-            2 => Hop::Discard,
-            _ => return Err(Refusal::Unknown),
-        };
-        Ok(Decision { hop, header: Header::read(v)? })
+impl Places {
+    fn of(header: &Header) -> Self {
+        let route = header.source_route.as_ref();
+        let relays = route.map_or(&[][..], |route| &route.relays[..]);
+        Places {
+            discover_route: header.discover_route as u8,
+            source_route: header.source_route_bit.into(),
+            has_source_route: route.is_some().into(),
+            relay_index: route.map_or(0, |route| route.relay_index),
+            relay_count: relays.len(),
+            relays: numbers(relays, |relay| relay.0).0,
+            ..Places::default()
+        }
+    }
+
+    /// What is decided; the header is made as it is to be sent.
+    fn decided(&self, header: &mut Header) -> NextHop {
+        header.discover_route = RouteDiscovery::of(self.discover_route);
+        header.source_route_bit = self.source_route == 1;
+        header.source_route = (self.has_source_route == 1)
+            .then(|| SourceRoute { relay_index: self.relay_index, relays: addresses(&self.relays, self.relay_count) });
+        match self.decision {
+            0 => NextHop::Resolved(Nwk(self.next_hop)),
+            1 => NextHop::NeedDiscovery,
+            _ => NextHop::Discard,
+        }
+    }
+}
+
+/// Decides on the next hop of a frame by a policy.
+///
+/// In this order: direct mode; a forced route; an end device child of ours; the concentrator's way to the destination;
+/// the active route; a hint; then a search, or the frame is thrown away where its header suppresses that. A source
+/// route is written into the header, with its bit set and the search suppressed; nothing else of the header changes,
+/// and of a refused call nothing at all.
+///
+/// May be refused with [`ListTooLong`](Refusal::ListTooLong), [`UnknownNextHop`](Refusal::UnknownNextHop) or
+/// [`EmptySourceRoute`](Refusal::EmptySourceRoute).
+///
+/// ```
+/// use warpteasel::{resolve, Header, Neighbors, NextHop, Nwk, Policy, RelayStore, RouteDiscovery, Routing, SendMode};
+/// let (mut routing, mut store, neighbors) = (Routing::new(), RelayStore::new(), Neighbors::new());
+/// routing.store_route_record(&mut store, Nwk(9), &[Nwk(30), Nwk(31)])?;
+///
+/// let mut header = Header { destination: Nwk(9), discover_route: RouteDiscovery::Enable, ..Header::default() };
+/// let hop = resolve(&routing, &store, &neighbors, Policy::default(), SendMode::StackDecides, &mut header)?;
+/// assert_eq!(hop, NextHop::Resolved(Nwk(31)));
+/// assert_eq!(header.source_route.unwrap().relays, [Nwk(30), Nwk(31)]);
+/// # Ok::<(), warpteasel::Refusal>(())
+/// ```
+pub fn resolve(
+    routing: &Routing,
+    store: &RelayStore,
+    neighbors: &Neighbors,
+    policy: Policy,
+    mode: SendMode,
+    header: &mut Header,
+) -> Result<NextHop, Refusal> {
+    let (mode, hop, relays) = mode.numbers();
+    let (relays, count) = numbers::<_, u16, { MAX_RELAYS + 1 }>(relays, |relay| relay.0);
+    let mut x = Places::of(header);
+    call!(warpteasel_raw_resolve: routing &routing.columns, list store.numbers(), neighbors &neighbors.columns,
+        number u8::from(policy.is_concentrator), number u8::from(policy.force_route_discovery),
+        number policy.max_source_route, number mode, number hop, list &relays[..count], number header.destination.0,
+        place &mut x.discover_route, place &mut x.source_route, place &mut x.has_source_route,
+        place &mut x.relay_index, place &mut x.relay_count, room &mut x.relays, place &mut x.decision,
+        place &mut x.next_hop,)?;
+    Ok(x.decided(header))
+}
+
+/// Decides on the next hop of a frame by the default policy, as [`resolve`] does.
+///
+/// ```
+/// use warpteasel::{resolve_default, Header, Neighbors, NextHop, Nwk, RelayStore, RouteDiscovery, Routing, SendMode};
+/// let (mut routing, store, neighbors) = (Routing::new(), RelayStore::new(), Neighbors::new());
+/// let mut header = Header { destination: Nwk(7), discover_route: RouteDiscovery::Enable, ..Header::default() };
+/// let hop = resolve_default(&routing, &store, &neighbors, SendMode::StackDecides, &mut header)?;
+/// assert_eq!(hop, NextHop::NeedDiscovery);
+/// routing.restore_route(Nwk(7), Nwk(3), 2)?;
+/// let hop = resolve_default(&routing, &store, &neighbors, SendMode::StackDecides, &mut header)?;
+/// assert_eq!(hop, NextHop::Resolved(Nwk(3)));
+/// # Ok::<(), warpteasel::Refusal>(())
+/// ```
+pub fn resolve_default(
+    routing: &Routing,
+    store: &RelayStore,
+    neighbors: &Neighbors,
+    mode: SendMode,
+    header: &mut Header,
+) -> Result<NextHop, Refusal> {
+    let (mode, hop, relays) = mode.numbers();
+    let (relays, count) = numbers::<_, u16, { MAX_RELAYS + 1 }>(relays, |relay| relay.0);
+    let mut x = Places::of(header);
+    call!(warpteasel_raw_resolve_default: routing &routing.columns, list store.numbers(),
+        neighbors &neighbors.columns, number mode, number hop, list &relays[..count], number header.destination.0,
+        place &mut x.discover_route, place &mut x.source_route, place &mut x.has_source_route,
+        place &mut x.relay_index, place &mut x.relay_count, room &mut x.relays, place &mut x.decision,
+        place &mut x.next_hop,)?;
+    Ok(x.decided(header))
+}
+
+impl Neighbors {
+    /// Clears the end device initiator bit of a frame that is relayed for an end device child of ours; whether it was
+    /// cleared.
+    ///
+    /// May be refused with [`ListTooLong`](Refusal::ListTooLong), for the header's source route.
+    ///
+    /// ```
+    /// use warpteasel::{Child, Eui64, Header, Neighbors, Nwk};
+    /// let mut neighbors = Neighbors::new();
+    /// neighbors.upsert_child(&Child { eui64: Eui64::from_number(5), network_address: Nwk(9), ..Child::default() }, 0)?;
+    /// let mut header = Header { source: Nwk(9), end_device_initiator: true, ..Header::default() };
+    /// assert!(neighbors.clear_end_device_initiator_for_relay(&mut header)?);
+    /// assert!(!header.end_device_initiator);
+    /// # Ok::<(), warpteasel::Refusal>(())
+    /// ```
+    pub fn clear_end_device_initiator_for_relay(&self, header: &mut Header) -> Result<bool, Refusal> {
+        let route = header.source_route.as_ref();
+        let mut initiator = header.end_device_initiator.into();
+        let mut cleared = 0;
+        call!(warpteasel_raw_clear_end_device_initiator_for_relay: neighbors &self.columns, number header.source.0,
+            number u8::from(route.is_some()), number route.map_or(0, |route| route.relays.len()),
+            place &mut initiator, place &mut cleared,)?;
+        header.end_device_initiator = initiator == 1;
+        Ok(cleared == 1)
     }
 }

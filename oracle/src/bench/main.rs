@@ -1,9 +1,10 @@
 //! Times the Rust and the ported calls on the same inputs, and prints nanoseconds a call and the ratio to the Rust's.
 //!
-//! Both sides fill their tables, make a call for each row of the inputs and add the answers up. The sums must agree: a
+//! Every side fills its tables, makes a call for each row of the inputs and adds the answers up. The sums must agree: a
 //! sum that differs ends the run with status 1. What filling takes is measured with no rows and taken off.
 
 mod inputs;
+mod linked;
 mod ported;
 mod rust_calls;
 
@@ -13,21 +14,45 @@ use std::process::ExitCode;
 /// A side's run: the size of the tables and the rows.
 type Run = fn(u16, &[u64]) -> u64;
 
-/// A call by its name, its inputs, and its three runs: the Rust's, the exported form's and the core form's.
+/// The sides, the Rust's first: the exported form, the core form and the linked form are set beside it.
+const SIDES: usize = 4;
+
+/// A call by its name, its inputs, and a run of each side that has one.
 pub struct Call {
     name: &'static str,
     rows: inputs::Make,
-    runs: [Run; 3],
+    runs: [Option<Run>; SIDES],
 }
 
-const CALLS: [Call; 7] = [
-    Call { name: "request", rows: inputs::requests, runs: ported::beside(rust_calls::requests, ported::REQUEST) },
-    Call { name: "reply", rows: inputs::replies, runs: ported::beside(rust_calls::replies, ported::REPLY) },
-    Call { name: "begin", rows: inputs::begins, runs: ported::beside(rust_calls::begins, ported::BEGIN) },
-    Call { name: "record", rows: inputs::records, runs: ported::beside(rust_calls::records, ported::RECORD) },
-    Call { name: "route query", rows: inputs::queries, runs: ported::beside(rust_calls::queries, ported::QUERY) },
-    Call { name: "link status", rows: inputs::links, runs: ported::beside(rust_calls::links, ported::LINK) },
-    Call { name: "decision", rows: inputs::decisions, runs: ported::beside(rust_calls::decisions, ported::DECISION) },
+const fn beside(rust: Run, [exported, core]: ported::Forms, linked: Run) -> [Option<Run>; SIDES] {
+    [Some(rust), Some(exported), Some(core), Some(linked)]
+}
+
+const CALLS: [Call; 8] = [
+    Call {
+        name: "next hop",
+        rows: inputs::queries,
+        runs: [Some(rust_calls::next_hops), None, None, Some(linked::NEXT_HOP)],
+    },
+    Call {
+        name: "request",
+        rows: inputs::requests,
+        runs: beside(rust_calls::requests, ported::REQUEST, linked::REQUEST),
+    },
+    Call { name: "reply", rows: inputs::replies, runs: beside(rust_calls::replies, ported::REPLY, linked::REPLY) },
+    Call { name: "begin", rows: inputs::begins, runs: beside(rust_calls::begins, ported::BEGIN, linked::BEGIN) },
+    Call { name: "record", rows: inputs::records, runs: beside(rust_calls::records, ported::RECORD, linked::RECORD) },
+    Call {
+        name: "route query",
+        rows: inputs::queries,
+        runs: beside(rust_calls::queries, ported::QUERY, linked::QUERY),
+    },
+    Call { name: "link status", rows: inputs::links, runs: beside(rust_calls::links, ported::LINK, linked::LINK) },
+    Call {
+        name: "decision",
+        rows: inputs::decisions,
+        runs: beside(rust_calls::decisions, ported::DECISION, linked::DECISION),
+    },
 ];
 
 /// Empty, half full and full.
@@ -55,34 +80,40 @@ fn nanos(run: Run, size: u16, rows: &[u64]) -> u64 {
 }
 
 /// The least time of each side for a call, over some turns in which the sides take their turn one after the other.
-fn measure(call: &Call, size: u16, rows: &[u64], turns: u64) -> [f64; 3] {
-    let (mut with, mut without) = ([u64::MAX; 3], [u64::MAX; 3]);
+fn measure(call: &Call, size: u16, rows: &[u64], turns: u64) -> [Option<f64>; SIDES] {
+    let (mut with, mut without) = ([u64::MAX; SIDES], [u64::MAX; SIDES]);
     for _ in 0..turns {
-        for (side, &run) in call.runs.iter().enumerate() {
-            without[side] = without[side].min(nanos(run, size, &[]));
-            with[side] = with[side].min(nanos(run, size, rows));
+        for (side, run) in call.runs.iter().enumerate() {
+            if let Some(run) = *run {
+                without[side] = without[side].min(nanos(run, size, &[]));
+                with[side] = with[side].min(nanos(run, size, rows));
+            }
         }
     }
     let calls = (rows.len() / inputs::ROW) as f64;
-    [0, 1, 2].map(|side| with[side].saturating_sub(without[side]) as f64 / calls)
+    std::array::from_fn(|side| call.runs[side].map(|_| with[side].saturating_sub(without[side]) as f64 / calls))
 }
 
-/// Whether the three sums agree; where they do not, says so.
+/// Whether the sums of all sides agree; where they do not, says so.
 fn agree(call: &Call, size: u16, rows: &[u64]) -> bool {
-    let sums = call.runs.map(|run| run(size, rows));
-    let same = sums[0] == sums[1] && sums[0] == sums[2];
+    let sums = call.runs.map(|run| run.map(|run| run(size, rows)));
+    let same = sums.iter().flatten().all(|&sum| Some(sum) == sums[0]);
     if !same {
-        println!(
-            "{} at {size}: the answers differ: Rust {}, exported {}, core {}",
-            call.name, sums[0], sums[1], sums[2]
-        );
+        println!("{} at {size}: the answers differ: Rust, exported, core and linked {sums:?}", call.name);
     }
     same
 }
 
-fn line(call: &Call, size: u16, [rust, exported, core]: [f64; 3]) {
-    let (name, outer, inner) = (call.name, exported / rust, core / rust);
-    println!("| {name:<11} | {size:>4} | {rust:>8.1} | {exported:>8.1} | {outer:>6.1} | {core:>8.1} | {inner:>6.1} |");
+fn line(call: &Call, size: u16, times: [Option<f64>; SIDES]) {
+    let rust = times[0].unwrap_or(f64::NAN);
+    print!("| {:<11} | {size:>4} | {rust:>8.1} |", call.name);
+    for time in &times[1..] {
+        match time {
+            Some(time) => print!(" {time:>8.1} | {:>6.1} |", time / rust),
+            None => print!(" {:>8} | {:>6} |", "", ""),
+        }
+    }
+    println!();
 }
 
 fn main() -> ExitCode {
@@ -91,8 +122,8 @@ fn main() -> ExitCode {
         eprintln!("usage: bench [SEED [TURNS]]");
         return ExitCode::from(2);
     };
-    println!("| call        | rows |  Rust ns | exported |  ratio |     core |  ratio |");
-    println!("|-------------|------|----------|----------|--------|----------|--------|");
+    println!("| call        | rows |  Rust ns | exported |  ratio |     core |  ratio |   linked |  ratio |");
+    println!("|-------------|------|----------|----------|--------|----------|--------|----------|--------|");
     let mut same = true;
     for call in &CALLS {
         for size in SIZES {

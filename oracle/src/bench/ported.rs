@@ -30,7 +30,7 @@ fn lent(call: Lent, size: u16, exported: bool, rows: &[u64]) -> u64 {
 }
 
 /// The exported form's run and the core form's.
-type Forms = [Run; 2];
+pub type Forms = [Run; 2];
 
 pub const REQUEST: Forms = [
     |s, rows| plain(warpteasel_speed_request, s, true, rows),
@@ -54,7 +54,3 @@ pub const DECISION: Forms = [
     |s, rows| lent(warpteasel_speed_decision, s, true, rows),
     |s, rows| lent(warpteasel_speed_decision, s, false, rows),
 ];
-
-pub const fn beside(rust: Run, [exported, core]: Forms) -> [Run; 3] {
-    [rust, exported, core]
-}

@@ -79,6 +79,11 @@ pub fn begins(size: u16, rows: &[u64]) -> u64 {
     })
 }
 
+pub fn next_hops(size: u16, rows: &[u64]) -> u64 {
+    let routing = filled(size);
+    sum(rows, |&[destination, ..]| routing.next_hop(nwk(destination)).map_or(1, |hop| u64::from(hop.0)))
+}
+
 pub fn records(size: u16, rows: &[u64]) -> u64 {
     let mut routing = recorded(size);
     sum(rows, |row| {
