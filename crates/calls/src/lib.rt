@@ -1,4 +1,6 @@
 // One call given as numbers, answered as numbers.
+#![tactic(auto)]
+
 ghost use Rattle.std.specs.Prelude.{◌≡◌};
 ghost use Rattle.numbers.specs.Said.{spoken};
 ghost use Rattle.lines.specs.Lines.{line_said};

@@ -1,4 +1,6 @@
 // What a call about children or a link status is given, read from numbers.
+#![tactic(auto)]
+
 ghost use Rattle.std.specs.Prelude.{◌≡◌, ◌<◌};
 ghost use Rattle.child_arguments.specs.Arguments.{maybe_eui64_at, maybe_nwk_at, past, poll_of, child_of, status_at, names_of, command_to, command_of};
 

@@ -1,4 +1,6 @@
 // A child as it joins or rejoins, and how a neighbour may be named.
+#![tactic(auto)]
+
 ghost use Rattle.std.specs.Prelude.{◌≡◌};
 ghost use Rattle.children.specs.Attach.{start_in, attached};
 

@@ -1,4 +1,6 @@
 // The children among the neighbours, in columns that are lent: those that were not heard in time go. All ten columns are lent.
+#![tactic(auto)]
+
 ghost use Rattle.std.specs.Prelude.{◌≡◌};
 ghost use Rattle.neighbor_columns.specs.Table.{in_columns, rows_of, WellFormed, Holds};
 ghost use Rattle.children_evict_lent.specs.Rules.{evicted, evict_timed_out_children};

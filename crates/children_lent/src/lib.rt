@@ -1,5 +1,7 @@
 // The children among the neighbours, in columns that are lent: the deadlines by which they have to be heard.
 // Each call is lent the columns that it touches and decides its refusals before it writes.
+#![tactic(auto)]
+
 ghost use Rattle.std.specs.Prelude.{[], ◌∷◌, ◌≡◌, ◌≤◌, ◌<◌, length};
 ghost use Rattle.types.specs.Clock.{time_sum};
 ghost use Rattle.standard.specs.Query.{first};

@@ -1,5 +1,7 @@
 // The children among the neighbours, in columns that are lent: how they come and how they go. All ten columns are lent.
 // Each call decides its refusals before it writes, and answers how many neighbours there are after it.
+#![tactic(auto)]
+
 ghost use Rattle.std.specs.Prelude.{◌≡◌};
 ghost use Rattle.types.specs.declared.Sum.TheVariants.{At};
 ghost use Rattle.types.specs.Clock.{time_sum};

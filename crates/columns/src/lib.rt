@@ -1,5 +1,7 @@
 // Columns of numbers that are lent and changed in place, for each width: the place of a key, the first place of a number, a number put in
 // and taken out, and the tests of a column. The laws of tables in columns stand in proofs/.
+#![tactic(auto)]
+
 ghost use Rattle.std.specs.Prelude.{◌≤◌, ◌<◌, min, length, take, cond, ◌≡◌};
 ghost use Rattle.flat_map.specs.Seek.{place_of};
 ghost use Rattle.flat_map.specs.Shift.{shift_in, shift_out};

@@ -1,4 +1,6 @@
 // The decision on the next hop, and the bit cleared for a relay, one function for each word of a script. The relay store is lent to be read.
+#![tactic(auto)]
+
 pub mod arguments;
 pub mod header;
 

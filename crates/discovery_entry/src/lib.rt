@@ -1,4 +1,6 @@
 // One discovery: made by a request or by a search of our own, reached by a better request, settled by a reply.
+#![tactic(auto)]
+
 ghost use Rattle.std.specs.Prelude.{◌≡◌};
 ghost use Rattle.standard.specs.Begin.{own_discovery};
 ghost use Rattle.standard.specs.Reply.{settled};

@@ -1,4 +1,6 @@
 // The route discovery table in columns of numbers that are lent and changed in place. Each function is a step on the discoveries that the columns hold.
+#![tactic(auto)]
+
 ghost use Rattle.std.specs.Prelude.{◌≡◌, ◌+◌, ◌*◌, ◌≤◌, ◌<◌, length, take, get_or};
 ghost use Rattle.flat_map.specs.declared.Place.TheVariants.{Found, Missing};
 ghost use Rattle.flat_map.specs.Seek.{place_of};

@@ -1,6 +1,8 @@
 // What the calls of the door for C share. The caller's own memory is the state: its columns are lent to each call, and a call writes in them and in
 // the places for its answer. A call returns 0, or the number of its refusal; a refused call writes nothing.
 // In a call that is answered every place is written, with 0 where the answer names nothing.
+#![tactic(auto)]
+
 ghost use Rattle.std.specs.Prelude.{◌≡◌};
 ghost use Rattle.numbers.specs.Said.{flag_number};
 ghost use Rattle.standard.specs.Numbers.{status_number};

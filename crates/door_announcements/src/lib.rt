@@ -1,4 +1,6 @@
 // The announcement of another router at the door for C. Each number of the lists that it is answered with goes out to 64 places.
+#![tactic(auto)]
+
 ghost use Rattle.door.specs.Lent.{Says};
 ghost use Rattle.door_neighbors.specs.Lent.{lent};
 ghost use Rattle.door_lists.specs.Lists.{Places64, addresses_at, children_at};

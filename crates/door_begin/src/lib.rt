@@ -1,4 +1,6 @@
 // A search of our own and an advertisement, at the door for C.
+#![tactic(auto)]
+
 ghost use Rattle.standard.specs.Route.{nwk};
 ghost use Rattle.door.specs.Lent.{lent_with, the_id};
 ghost use Rattle.door_begin.specs.Begin.{SaysBegun, BeginMade, AdvertiseMade};

@@ -1,4 +1,6 @@
 // The calls about children at the door for C.
+#![tactic(auto)]
+
 ghost use Rattle.std.specs.Prelude.{◌≡◌};
 ghost use Rattle.standard.specs.Tells.{Tells};
 ghost use Rattle.neighbors.specs.declared.Neighbors.{Neighbors};

@@ -1,5 +1,7 @@
 // The decision on the next hop at the door for C. Of the header that the caller keeps the fields that a decision may change are lent, by their numbers;
 // they are written where a source route is set, and only there.
+#![tactic(auto)]
+
 mod outcome;
 
 ghost use Rattle.std.specs.Prelude.{false, ◌≡◌, ◌≤◌};

@@ -1,4 +1,6 @@
 // A link status command at the door for C.
+#![tactic(auto)]
+
 ghost use Rattle.std.specs.Prelude.{[], ◌≡◌};
 ghost use Rattle.standard.specs.Tells.{Tells};
 ghost use Rattle.door_neighbors.specs.Answers.{address_at};

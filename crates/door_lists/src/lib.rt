@@ -1,4 +1,6 @@
 // The lists of answers at the door for C, written to the places that are lent for them, and lists that are given as numbers.
+#![tactic(auto)]
+
 ghost use Rattle.std.specs.Prelude.{◌≡◌};
 ghost use Rattle.door.specs.Lent.{Says};
 ghost use Rattle.door_lists.specs.Answers.{children_numbers, children};

@@ -1,4 +1,6 @@
 // The calls at the door for C that change one neighbour that is there, or all, or forget one.
+#![tactic(auto)]
+
 ghost use Rattle.neighbors.specs.declared.Neighbors.{Neighbors};
 ghost use Rattle.neighbors.specs.Changes.{update_network_address, remove, record_outbound_activity, record_inbound_activity, record_transmit_failure, reset_transmit_failures};
 ghost use Rattle.neighbor_calls.specs.Samples.{record_lqa};

@@ -1,4 +1,6 @@
 // The questions to neighbours at the door for C that are answered with a list. Each of a list's numbers goes out to 64 places.
+#![tactic(auto)]
+
 ghost use Rattle.door_neighbors.specs.Lent.{lent};
 ghost use Rattle.door_lists.specs.Lists.{addresses_at, children_at, statuses_at};
 ghost use Rattle.door_neighbor_lists.specs.Questions.{SleepyAsked, EndDevicesAsked, RelayersAsked, StatusesAsked};

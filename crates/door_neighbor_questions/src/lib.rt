@@ -1,4 +1,6 @@
 // The questions that are asked of the neighbours, at the door for C. Columns are lent as `&[..]`, so that several threads may ask of one state at once.
+#![tactic(auto)]
+
 ghost use Rattle.std.specs.Prelude.{◌≡◌};
 ghost use Rattle.standard.specs.LinkCost.{link_cost};
 ghost use Rattle.neighbor_queries.specs.Answers.{moment_in};

@@ -1,4 +1,6 @@
 // The rows of the neighbours, place by place, at the door for C.
+#![tactic(auto)]
+
 ghost use Rattle.std.specs.Prelude.{◌≡◌};
 ghost use Rattle.neighbors.specs.declared.Neighbors.{Neighbors};
 ghost use Rattle.neighbors.specs.Queries as ask;

@@ -1,4 +1,6 @@
 // What the neighbours' calls of the door for C share: the test of the columns that are lent, and the numbers of answers that many calls give.
+#![tactic(auto)]
+
 ghost use Rattle.std.specs.Prelude.{◌≡◌};
 ghost use Rattle.neighbor_columns.specs.Table as neighbours;
 ghost use Rattle.waiting_columns.specs.Table as waits;

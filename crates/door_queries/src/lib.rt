@@ -1,4 +1,6 @@
 // The questions of the door for C. Columns are lent as `&[..]`, so that several threads may ask of one state at once.
+#![tactic(auto)]
+
 ghost use Rattle.std.specs.Prelude.{◌≡◌};
 ghost use Rattle.standard.specs.Route.{nwk};
 ghost use Rattle.routing.specs.declared.Routing.{Routing};

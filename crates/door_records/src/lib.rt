@@ -1,4 +1,6 @@
 // The calls on route records at the door for C: the relay store is lent beside the columns.
+#![tactic(auto)]
+
 mod removal;
 
 ghost use Rattle.std.specs.Prelude.{◌≡◌, ◌≤◌, length};

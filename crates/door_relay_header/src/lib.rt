@@ -1,5 +1,7 @@
 // What a router does to the header of a frame that it relays, at the door for C. Of the header that the caller keeps the fields that the call reads are
 // lent, and the end device initiator bit, which it may clear.
+#![tactic(auto)]
+
 ghost use Rattle.std.specs.Prelude.{[], ◌∷◌, ℕ, ◌≤◌};
 ghost use Rattle.standard.specs.Route.{nwk};
 ghost use Rattle.neighbor_columns.specs.Lent as rows;

@@ -1,4 +1,6 @@
 // The calls at the door for C that remove children. Each number of the lists that they answer goes out to 64 places.
+#![tactic(auto)]
+
 ghost use Rattle.door_neighbors.specs.Lent.{lent};
 ghost use Rattle.door_lists.specs.Lists.{children_at};
 ghost use Rattle.door_removals.specs.Removals.{EvictionMade, ClaimMade};

@@ -1,4 +1,6 @@
 // The calls at the door for C that make or remove a route.
+#![tactic(auto)]
+
 ghost use Rattle.standard.specs.Route.{nwk};
 ghost use Rattle.routing.specs.declared.Routing.{Routing};
 ghost use Rattle.routing.specs.Routes.{restore_route, note_relayed_discovery, remove_route};

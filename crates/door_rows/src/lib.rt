@@ -1,4 +1,6 @@
 // The rows of a state, place by place, at the door for C.
+#![tactic(auto)]
+
 ghost use Rattle.std.specs.Prelude.{◌≡◌};
 ghost use Rattle.routing.specs.declared.Routing.{Routing};
 ghost use Rattle.routing.specs.Queries.{route_at, discovery_at};

@@ -1,4 +1,6 @@
 // The calls of route search at the door for C.
+#![tactic(auto)]
+
 mod reply;
 mod request;
 

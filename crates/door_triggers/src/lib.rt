@@ -1,4 +1,6 @@
 // The trigger counters at the door for C: those that a call counts are lent beside the columns.
+#![tactic(auto)]
+
 ghost use Rattle.routing.specs.declared.Routing.{Routing};
 ghost use Rattle.routing.specs.Queries.{note_route_error, note_delivery_failure, reset_mtorr_triggers};
 ghost use Rattle.door.specs.Lent.{lent_with, the_errors, the_failures, the_triggers};

@@ -1,4 +1,6 @@
 // The calls at the door for C that change routes which are there.
+#![tactic(auto)]
+
 ghost use Rattle.standard.specs.Route.{nwk};
 ghost use Rattle.routing.specs.declared.Routing.{Routing};
 ghost use Rattle.routing.specs.Routes.{mark_discovery_failed, record_usage, note_source_routed_frame, decay_activity, invalidate_via};

@@ -1,4 +1,6 @@
 // The questions at the door for C whose answers have relays: the way to a destination, and the route record at a place.
+#![tactic(auto)]
+
 ghost use Rattle.std.specs.Prelude.{◌≡◌, length};
 ghost use Rattle.standard.specs.Route.{nwk};
 ghost use Rattle.route_table.specs.Table as route;

@@ -1,5 +1,7 @@
 // Expiry over both tables of searches: discoveries whose time is over go, and with them the routes that waited for them.
 // What the tables would be after it is asked without making it, so that a call can be refused before it writes.
+#![tactic(auto)]
+
 ghost use Rattle.std.specs.Prelude.{not, ◌≡◌, leb};
 ghost use Rattle.discovery_table.specs.Table as discovery;
 ghost use Rattle.route_table.specs.Table as route;

@@ -1,10 +1,12 @@
 // The look-up that all tables share, over their keys as numbers. The laws of ordered rows stand in proofs/.
+#![tactic(auto)]
+
 ghost use Rattle.std.specs.Prelude.{◌≤◌, length, take, ◌≡◌};
 ghost use Rattle.flat_map.specs.Seek.{place_of};
 ghost use Rattle.flat_map.specs.Table.{Rising};
 
 // Where a key stands, or where it would stand.
-#[derive(Drop)]
+#[derive(Clone, Copy)]
 pub enum Place {
     Found(usize),
     Missing(usize),

@@ -1,4 +1,6 @@
 // The network header by value, field by field as the Rust has it, and the two changes that a call makes to one.
+#![tactic(auto)]
+
 ghost use Rattle.std.specs.Prelude.{◌≡◌, ◌<◌, ◌≤◌};
 ghost use Rattle.frame.specs.Numbers.{frame_type_number, discovery_number};
 ghost use Rattle.frame.specs.Header.{is_suppressed, carries_long, routed_control, source_routed, relayed_control, initiator_cleared};
@@ -7,7 +9,7 @@ use standard::RelayList;
 use types::{Eui64, Nwk};
 
 // What a frame carries; 2 is no type.
-#[derive(Drop)]
+#[derive(Clone, Copy)]
 pub enum NwkFrameType {
     Data,
     Command,
@@ -15,7 +17,7 @@ pub enum NwkFrameType {
 }
 
 // Whether a route may be discovered for a frame.
-#[derive(Drop)]
+#[derive(Clone, Copy)]
 pub enum NwkRouteDiscovery {
     Suppress,
     Enable,
@@ -23,7 +25,7 @@ pub enum NwkRouteDiscovery {
 }
 
 // The first two bytes of a header. The version has four bits there, the reserved field two.
-#[derive(Drop)]
+#[derive(Clone, Copy)]
 pub struct NwkFrameControl {
     pub frame_type: NwkFrameType,
     pub protocol_version: u8,
@@ -38,28 +40,28 @@ pub struct NwkFrameControl {
 }
 
 // An extended address that a header may have.
-#[derive(Drop)]
+#[derive(Clone, Copy)]
 pub enum OptionalEui64 {
     Absent,
     Present(Eui64),
 }
 
 // A byte that a header may have.
-#[derive(Drop)]
+#[derive(Clone, Copy)]
 pub enum OptionalByte {
     Absent,
     Present(u8),
 }
 
 // The relays of a source route, the one next to the destination first, and the place of the relay that is to come.
-#[derive(Drop)]
+#[derive(Clone, Copy)]
 pub struct NwkSourceRoute {
     pub relay_index: u8,
     pub relays: RelayList,
 }
 
 // A network header. The source route is one only if the flag before it says so; the bit in the frame control is a field of its own.
-#[derive(Drop)]
+#[derive(Clone, Copy)]
 pub struct NwkHeader {
     pub frame_control: NwkFrameControl,
     pub destination: Nwk,

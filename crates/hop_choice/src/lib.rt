@@ -1,5 +1,7 @@
 // The way of a unicast that we send, chosen from columns that are lent. The answer is small: no header, no relay store and no list of relays goes in or
 // out, and what calls this makes the outcome of it.
+#![tactic(auto)]
+
 ghost use Rattle.std.specs.Prelude.{[], ◌∷◌, ◌≡◌};
 ghost use Rattle.route_table.specs.Table as route;
 ghost use Rattle.record_table.specs.Table as record_of;
@@ -13,14 +15,14 @@ use route_calls::HopAnswer;
 use types::{Nwk, Refusal};
 
 // A route that the host names: a hop, or the relays beside it.
-#[derive(Drop)]
+#[derive(Clone, Copy)]
 pub enum HostRoute {
     NextHop(Nwk),
     SourceRoute,
 }
 
 // What the host wants of the way: nothing, its route where there is no other, or its route in any case.
-#[derive(Drop)]
+#[derive(Clone, Copy)]
 pub enum RouteDirective {
     StackDecides,
     Hint(HostRoute),
@@ -28,14 +30,14 @@ pub enum RouteDirective {
 }
 
 // Straight to the destination, or by the routes.
-#[derive(Drop)]
+#[derive(Clone, Copy)]
 pub enum SendKind {
     Direct,
     Route(RouteDirective),
 }
 
 // The settings that a decision reads.
-#[derive(Drop)]
+#[derive(Clone, Copy)]
 pub struct Policy {
     // Route records are kept, and frames are sent by them.
     pub is_concentrator: bool,

@@ -1,4 +1,6 @@
 // The cost of a link by the quality at which it is heard.
+#![tactic(auto)]
+
 ghost use Rattle.std.specs.Prelude.{◌≡◌};
 ghost use Rattle.standard.specs.LinkCost.{link_cost};
 

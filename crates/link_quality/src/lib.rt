@@ -1,5 +1,7 @@
 // Samples of link quality, in columns that are lent: to the neighbour that sent, or to wait where the sender is none yet.
 // Of the neighbours' columns only network addresses and link words are lent.
+#![tactic(auto)]
+
 ghost use Rattle.std.specs.Prelude.{[], ◌∷◌, ◌≡◌, ◌≤◌};
 ghost use Rattle.columns.specs.Columns.{Long};
 ghost use Rattle.neighbor_columns.specs.Codec.{link_of, CleanLink};

@@ -1,4 +1,6 @@
 // Link status commands: what a neighbour says of its links, and what that makes of our entry for it.
+#![tactic(auto)]
+
 ghost use Rattle.std.specs.Prelude.{cond, true, ◌≡◌, ◌+◌, ◌-◌, ◌≤◌, ◌<◌, min};
 ghost use Rattle.flat_map.specs.Table.{every};
 ghost use Rattle.link_status.specs.Digest.{as_router, begun, finished, new_router};
@@ -10,7 +12,7 @@ use ring_buffer::RingBuffer;
 use types::{Eui64, Nwk};
 
 // The statuses of one command; the count may pass the capacity.
-#[derive(Drop)]
+#[derive(Clone, Copy)]
 pub struct LinkStatusCommand {
     pub is_first_frame: bool,
     pub is_last_frame: bool,
@@ -19,7 +21,7 @@ pub struct LinkStatusCommand {
 }
 
 // What the statuses passed so far add up to.
-#[derive(Drop)]
+#[derive(Clone, Copy)]
 pub struct Tally {
     pub connectivity: u8,
     pub diversity: u8,

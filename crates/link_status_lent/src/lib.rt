@@ -1,5 +1,7 @@
 // The link status command on the columns of the neighbours and of the waiting samples, lent and changed in place.
 // A refusal is decided before anything is written. The columns are asked to be well formed; the test is made above.
+#![tactic(auto)]
+
 ghost use Rattle.std.specs.Prelude.{cond, ◌&&◌, map, ◌≡◌, ◌+◌, ◌*◌, ◌≤◌, ◌<◌, eqb, ltb, take, length};
 ghost use Rattle.flat_map.specs.Table.{Rising};
 ghost use Rattle.types.specs.Clock.{last_time};

@@ -1,4 +1,6 @@
 // Every answer about neighbours as numbers: a refusal's number, or what was answered and its values.
+#![tactic(auto)]
+
 ghost use Rattle.std.specs.Prelude.{◌≡◌, [], ◌∷◌};
 ghost use Rattle.numbers.specs.Said.{ok, flag_number, empty, pushed_all, spoken};
 ghost use Rattle.neighbor_table.specs.Entry.{device_type_number};

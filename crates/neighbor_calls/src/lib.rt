@@ -1,5 +1,7 @@
 // Calls on the neighbours by value that are more than a question or a change of one field: children, samples, announcements, link status.
 // Each tests the state, lends its columns to the call on lent columns, and puts back those that changed.
+#![tactic(auto)]
+
 ghost use Rattle.std.specs.Prelude.{◌≡◌};
 ghost use Rattle.neighbor_calls.specs.Outcomes.{refused_truth, refused_nwk, refused_removal};
 ghost use Rattle.neighbor_calls.specs.Children.{refresh_child_timeout, set_child_timeout, take_child, evict_timed_out_children, upsert_child};

@@ -1,4 +1,6 @@
 // What can happen to one neighbour. The rules on rows are in specs/; the calls on columns stand above.
+#![tactic(auto)]
+
 use types::Nwk;
 
 // What happens to one neighbour.

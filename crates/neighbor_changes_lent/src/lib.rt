@@ -1,5 +1,7 @@
 // Changes of the neighbour table in columns that are lent: of one neighbour that is looked up, of all, and one taken out.
 // Each is lent the columns that it touches, and is a step on the rows of every table that has them.
+#![tactic(auto)]
+
 ghost use Rattle.std.specs.Prelude.{[], ◌∷◌, map, ◌≡◌, ◌≤◌};
 ghost use Rattle.standard.specs.Ordered as ordered;
 ghost use Rattle.columns.specs.Columns.{Ordered, Long};

@@ -1,4 +1,6 @@
 // The neighbour table in columns of numbers that are lent and changed in place. Each function is a step on the rows that the columns hold.
+#![tactic(auto)]
+
 ghost use Rattle.std.specs.Prelude.{[], ◌∷◌, ◌≡◌, ◌+◌, ◌*◌, ◌≤◌, ◌<◌, min, leb, length, take};
 ghost use Rattle.std.proofs.Math.Option.{none, some};
 ghost use mir.Val.{bool_byte};
@@ -21,7 +23,7 @@ use ring_buffer::RingBuffer;
 use types::{Eui64, Nwk};
 
 // What stands in the link word of a neighbour.
-#[derive(Drop)]
+#[derive(Clone, Copy)]
 pub struct LinkPart {
     pub lqas: RingBuffer,
     pub outgoing_cost: u8,
@@ -32,7 +34,7 @@ pub struct LinkPart {
 }
 
 // What stands in the counts word of a neighbour.
-#[derive(Drop)]
+#[derive(Clone, Copy)]
 pub struct CountsPart {
     pub transmit_failure: u8,
     pub router_connectivity: u8,

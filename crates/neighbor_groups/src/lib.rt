@@ -1,4 +1,6 @@
 // The neighbour calls by their numbers, a group to a function.
+#![tactic(auto)]
+
 pub mod child;
 pub mod events;
 pub mod lists;

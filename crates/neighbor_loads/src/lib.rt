@@ -1,5 +1,7 @@
 // The lines that set the neighbours up, and those that damage them: each puts one entry or one number, and nothing else.
 // Samples and costs may be ill formed; the calls on the neighbours then refuse the state.
+#![tactic(auto)]
+
 pub mod prints;
 
 ghost use Rattle.std.specs.Prelude.{◌≡◌, ◌≤◌, take};

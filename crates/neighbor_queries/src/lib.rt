@@ -1,4 +1,6 @@
 // Questions to the neighbours and what they are answered: which rows are asked for, lists, and an answer for each kind of call.
+#![tactic(auto)]
+
 ghost use Rattle.std.specs.Prelude.{◌≡◌, [], ◌<◌};
 ghost use Rattle.neighbor_queries.specs.Lists.{child_list, eui_list, nwk_list, status_list, one_more_child, one_more_eui, one_more_nwk, one_more_status};
 
@@ -6,7 +8,7 @@ use neighbor_table::{NeighborEntry, NwkDeviceType};
 use types::{Eui64, Nwk, Refusal};
 
 // Which neighbours are asked for.
-#[derive(Drop)]
+#[derive(Clone, Copy)]
 pub enum Filter {
     // Those with a network address.
     Address(Nwk),
@@ -26,39 +28,39 @@ pub enum Filter {
 }
 
 // A child by both its addresses.
-#[derive(Drop)]
+#[derive(Clone, Copy)]
 pub struct Child {
     pub eui64: Eui64,
     pub network_address: Nwk,
 }
 
 // The cost of one link both ways, as a link status says it.
-#[derive(Drop)]
+#[derive(Clone, Copy)]
 pub struct LinkStatus {
     pub address: Nwk,
     pub incoming_cost: u8,
     pub outgoing_cost: u8,
 }
 
-#[derive(Drop)]
+#[derive(Clone, Copy)]
 pub struct ChildList {
     pub count: usize,
     pub children: [Child; 64],
 }
 
-#[derive(Drop)]
+#[derive(Clone, Copy)]
 pub struct Eui64List {
     pub count: usize,
     pub addresses: [Eui64; 64],
 }
 
-#[derive(Drop)]
+#[derive(Clone, Copy)]
 pub struct NwkList {
     pub count: usize,
     pub addresses: [Nwk; 64],
 }
 
-#[derive(Drop)]
+#[derive(Clone, Copy)]
 pub struct LinkStatusList {
     pub count: usize,
     pub statuses: [LinkStatus; 64],

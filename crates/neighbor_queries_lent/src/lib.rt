@@ -1,5 +1,7 @@
 // Questions to the neighbour table in columns that are lent: which rows fit, the first of them, how many, and what is read off them in
 // order. A question reads network addresses and link words, and further columns only where its answer says more.
+#![tactic(auto)]
+
 ghost use Rattle.std.specs.Prelude.{not, ◌&&◌, [], ◌∷◌, map, ◌≡◌, ◌≤◌, drop};
 ghost use Rattle.std.proofs.Math.Option.{some};
 ghost use Rattle.standard.specs.Ordered.{keep};

@@ -1,4 +1,6 @@
 // The questions that are asked of the neighbours, to columns that are lent: the answers of `neighbors` where no refusal is to be given.
+#![tactic(auto)]
+
 ghost use Rattle.std.specs.Prelude.{[], ◌∷◌, map, ◌≡◌};
 ghost use Rattle.standard.specs.Ordered.{lookup, keep};
 ghost use Rattle.standard.specs.Query.{first, some_fits, count_fits};

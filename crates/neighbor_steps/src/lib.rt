@@ -1,4 +1,6 @@
 // A neighbour stored, put in or taken out, in all columns of the neighbour table: each function is a step on the rows that the columns hold.
+#![tactic(auto)]
+
 ghost use Rattle.std.specs.Prelude.{◌≡◌, ◌+◌, ◌≤◌, ◌<◌, take};
 ghost use Rattle.standard.specs.Ordered.{put, remove, count_with};
 ghost use Rattle.flat_map.specs.declared.Place.TheVariants.{Found, Missing};

@@ -1,4 +1,6 @@
 // A row of the neighbour table: its fields, what is read off them, and the answer of a look-up.
+#![tactic(auto)]
+
 ghost use Rattle.std.specs.Prelude.{◌≡◌};
 ghost use Rattle.std.proofs.Math.Option.{none, some};
 ghost use Rattle.neighbor_table.specs.Entry.{is_router, is_end_device, is_child_of, quality_of, cost_of, device_type_number, relationship_number, blank_neighbor};
@@ -8,7 +10,7 @@ use ring_buffer::RingBuffer;
 use types::{Eui64, Nwk};
 
 // What a device is to its network, in the specification's number order.
-#[derive(Drop)]
+#[derive(Clone, Copy)]
 pub enum NwkDeviceType {
     Coordinator,
     Router,
@@ -48,7 +50,7 @@ impl NwkDeviceType {
 }
 
 // What a neighbour is to this device, in the specification's number order.
-#[derive(Drop)]
+#[derive(Clone, Copy)]
 pub enum Relationship {
     Parent,
     Child,
@@ -107,7 +109,7 @@ pub enum Quality {
 }
 
 // A row of the neighbour table. Moments and periods are in milliseconds.
-#[derive(Drop)]
+#[derive(Clone, Copy)]
 pub struct NeighborEntry {
     pub extended_address: Eui64,
     pub network_address: Nwk,

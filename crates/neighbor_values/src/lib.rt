@@ -1,4 +1,6 @@
 // Neighbours, waiting entries, children, link statuses and lists of them as numbers, in the order in which a script takes and prints them.
+#![tactic(auto)]
+
 ghost use Rattle.std.specs.Prelude.{◌≡◌, ◌<◌};
 ghost use Rattle.numbers.specs.Said.{flag_number, pushed, pushed_all};
 ghost use Rattle.neighbor_table.specs.Entry.{device_type_number, relationship_number};

@@ -1,5 +1,7 @@
 // The neighbours by value: who is heard, at what cost, and which of them are children. Each call tests the state, lends the columns that
 // it touches to the call on lent columns, and puts back those that changed.
+#![tactic(auto)]
+
 mod changes;
 mod questions;
 
@@ -13,7 +15,7 @@ use neighbor_queries::Answer;
 use types::Refusal;
 
 // The columns of the neighbours, and those of the senders that are none yet, whose samples wait.
-#[derive(Drop)]
+#[derive(Clone, Copy)]
 pub struct Neighbors {
     // Extended addresses, in their order.
     pub keys: [u64; 64],

@@ -1,5 +1,7 @@
 // The next hop of a unicast that we send: a decision over the routes and the neighbours, which may give the header a source route.
 // The states are asked and not changed; the relay store is lent to be read.
+#![tactic(auto)]
+
 mod modes;
 mod outcome;
 
@@ -24,7 +26,7 @@ use standard::RelayList;
 use types::{Nwk, Refusal};
 
 // How a frame is sent; the relays count only where a host route is a source route.
-#[derive(Drop)]
+#[derive(Clone, Copy)]
 pub struct SendMode {
     pub kind: SendKind,
     pub relays: RelayList,

@@ -1,4 +1,6 @@
 // Calls and answers as numbers: arguments read from a slice, an answer's values put one after another.
+#![tactic(auto)]
+
 ghost use Rattle.std.specs.Prelude.{◌≡◌, [], ◌%◌, min};
 ghost use Rattle.numbers.specs.Said.{ok, bad, refused_by, flag_number, empty, pushed, pushed_all, spoken};
 ghost use Rattle.numbers.specs.Read.{number_at, byte_at, short_at, counter_at, flag_at, nwk_at, eui64_at};

@@ -1,5 +1,7 @@
 // Children that another router announces or claims, in columns that are lent: those confirmed here are claimed back, the others go.
 // All ten columns are lent. A list that is too long is refused before anything is written.
+#![tactic(auto)]
+
 ghost use Rattle.std.specs.Prelude.{true, false, [], ◌∷◌, ◌≡◌, ◌<◌, ◌≤◌, take};
 ghost use Rattle.columns.specs.Columns.{Ordered};
 ghost use Rattle.flat_map.specs.Seek.{place_of};

@@ -1,4 +1,6 @@
 // What a router does to the header of a frame that it relays for one of its end device children.
+#![tactic(auto)]
+
 ghost use Rattle.std.specs.Prelude.{[], ◌∷◌, ◌≡◌};
 ghost use Rattle.neighbor_columns.specs.Lent.{Asked};
 ghost use Rattle.neighbor_queries_lent.specs.Read.{InUse, lent_words};

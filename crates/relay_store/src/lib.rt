@@ -1,5 +1,7 @@
 // The relays of the route records, in a lent store of 64 rows of 32 numbers: row i holds those of the i-th record by address.
 // A row is written by one function alone, which is lent that row and no other.
+#![tactic(auto)]
+
 ghost use Rattle.std.specs.Prelude.{◌≡◌, [], map, ◌≤◌, ◌<◌, length, take, drop};
 ghost use Rattle.flat_map.specs.Shift.{shift_in, shift_out};
 ghost use Rattle.flat_map.specs.Table.{ZeroFrom};

@@ -1,5 +1,7 @@
 // Reads a script from standard input, makes its calls, and writes a line of answer for each to standard output.
 // Input and answers go in parts of 65,536 bytes; a line may have any length.
+#![tactic(auto)]
+
 ghost use Rattle.std.specs.Prelude.{◌≡◌, ◌+◌, ◌<◌};
 ghost use Rattle.io.specs.Counts.{IsPrefixLen};
 

@@ -1,4 +1,6 @@
 // The last three link samples and their median; a ring of samples as one number.
+#![tactic(auto)]
+
 ghost use Rattle.std.specs.Prelude.{◌+◌, ◌*◌, ◌<◌, min, ◌≡◌, eqb, drop};
 ghost use Rattle.standard.specs.Median.{Ordered, median_of};
 ghost use Rattle.standard.specs.Tells.{Tells};
@@ -10,7 +12,7 @@ ghost use Rattle.ring_buffer.specs.Exchange.{exchanged};
 pub type Samples = [u8; 3];
 
 // The last three values pushed. `len` of the places are in use, and the next push writes place `next`.
-#[derive(Drop)]
+#[derive(Clone, Copy)]
 pub struct RingBuffer {
     pub values: [u8; 3],
     pub len: u8,

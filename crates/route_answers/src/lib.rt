@@ -1,4 +1,6 @@
 // Each answer of the routing calls as numbers: one function for each kind of answer, with the definition that says it.
+#![tactic(auto)]
+
 ghost use Rattle.std.specs.Prelude.{◌≡◌, ◌∷◌, map};
 ghost use Rattle.numbers.specs.Said.{ok, pushed_all, spoken};
 ghost use Rattle.standard.specs.Numbers.{status_number, update_numbers, disposition_numbers};

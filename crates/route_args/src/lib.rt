@@ -1,4 +1,6 @@
 // The arguments of routing calls read from numbers: statuses, many-to-one fields, lists of relays, and whole entries, each from a place on.
+#![tactic(auto)]
+
 ghost use Rattle.std.specs.Prelude.{◌≡◌, ◌<◌};
 ghost use Rattle.route_args.specs.Read.{many_to_one_of, status_of, relays_at, route_at, discovery_at};
 

@@ -1,4 +1,6 @@
 // A search of our own, and a many-to-one advertisement, on the tables of route search in columns that are lent: refused before anything is written, or else they change them in place.
+#![tactic(auto)]
+
 ghost use Rattle.std.specs.Prelude.{◌≡◌, ◌≤◌};
 ghost use Rattle.types.specs.Clock.{time_sum};
 ghost use Rattle.standard.specs.Expiry.{expired};
@@ -17,7 +19,7 @@ use standard::{DiscoveryEntry, Status};
 use types::{Nwk, Refusal, Sum};
 
 // What beginning is answered: a refusal, or the request id that goes into the command.
-#[derive(Drop)]
+#[derive(Clone, Copy)]
 pub enum BeginAnswer {
     Refused(Refusal),
     Begun(u8),

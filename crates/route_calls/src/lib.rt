@@ -1,4 +1,6 @@
 // The calls that look at the route table alone, and the check of routes against discoveries, on columns that are lent.
+#![tactic(auto)]
+
 ghost use Rattle.std.specs.Prelude.{◌≡◌, take};
 ghost use Rattle.std.proofs.Math.Option.{some};
 ghost use Rattle.flat_map.specs.Seek.{place_of};

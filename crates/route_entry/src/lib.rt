@@ -1,4 +1,6 @@
 // One route: what a candidate, a search, a use and a many-to-one request do to it.
+#![tactic(auto)]
+
 ghost use Rattle.std.specs.Prelude.{◌≡◌};
 ghost use Rattle.standard.specs.Route.{is_active, is_underway, new_route, with_status, via, suits, considered, considering, news, used, record_known};
 ghost use Rattle.standard.specs.Request.{concentrator, flagged};

@@ -1,4 +1,6 @@
 // The lines that set the routing state up, and those that damage it: each puts one entry or one number, and nothing else.
+#![tactic(auto)]
+
 pub mod prints;
 
 ghost use Rattle.std.specs.Prelude.{◌≡◌, ◌≤◌};

@@ -1,4 +1,6 @@
 // Route records in the lent columns of a table and a lent relay store, changed in place: one stored, one removed, and the way that one names.
+#![tactic(auto)]
+
 ghost use Rattle.std.specs.Prelude.{◌≡◌, map, ◌≤◌, ◌<◌, leb, length, take, drop};
 ghost use Rattle.std.proofs.Math.Option.{none};
 ghost use Rattle.flat_map.specs.Seek.{place_of};

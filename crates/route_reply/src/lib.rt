@@ -1,4 +1,6 @@
 // A route reply against the tables of route search in columns that are lent: what it changes is changed in place.
+#![tactic(auto)]
+
 ghost use Rattle.std.specs.Prelude.{◌≡◌};
 ghost use Rattle.standard.specs.declared.RouteReplyDisposition.TheVariants.{Drop};
 ghost use Rattle.standard.specs.declared.Update.TheVariants.{Same};

@@ -1,4 +1,6 @@
 // A route request against the tables of route search in columns that are lent: it is refused before anything is written, or else changes them in place.
+#![tactic(auto)]
+
 ghost use Rattle.std.proofs.Math.Option.{none, some};
 ghost use Rattle.std.specs.Prelude.{◌≡◌};
 ghost use Rattle.types.specs.Clock.{time_sum};

@@ -1,4 +1,6 @@
 // The route table in columns of numbers that are lent and changed in place. Each function is a step on the routes that the columns hold.
+#![tactic(auto)]
+
 ghost use Rattle.std.specs.Prelude.{[], ◌∷◌, map, ◌≡◌, ◌+◌, ◌-◌, ◌*◌, ◌≤◌, ◌<◌, length, take, get_or};
 ghost use mir.Val.{bool_byte};
 ghost use Rattle.flat_map.specs.declared.Place.TheVariants.{Found, Missing};

@@ -1,4 +1,6 @@
 // The routing state by value, and every call on it. Each call tests the state, lends its columns to the rule, and puts them back.
+#![tactic(auto)]
+
 mod queries;
 mod records;
 mod routes;
@@ -21,7 +23,7 @@ use standard::{ManyToOne, RecordEntry, RelayList};
 use types::{Nwk, Refusal};
 
 // The trigger counters, the last request id, and the columns of the three tables: routes, discoveries, route records.
-#[derive(Drop)]
+#[derive(Clone, Copy)]
 pub struct Routing {
     pub mtorr_route_errors: u8,
     pub mtorr_delivery_failures: u8,

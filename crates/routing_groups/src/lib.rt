@@ -1,4 +1,6 @@
 // The routing calls by their numbers, a group to a function.
+#![tactic(auto)]
+
 pub mod changes;
 pub mod questions;
 pub mod records;

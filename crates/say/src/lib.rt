@@ -1,4 +1,6 @@
 // Answers as text, written into a buffer that the caller lends from a place on; a line is at most 5,400 bytes long.
+#![tactic(auto)]
+
 ghost use Rattle.std.specs.Prelude.{◌≡◌, ◌∷◌, ◌+◌, ◌<◌, take, drop};
 ghost use Rattle.say.specs.Page.{page, put_byte, puts};
 ghost use Rattle.say.specs.Text.{digits, decimal, spaced, line, answer_line, put_word, table_line, end_line};

@@ -1,4 +1,6 @@
 // The reader of scripts: a line's bytes come in parts of any size and are read in constant space, so a line may have any length.
+#![tactic(auto)]
+
 ghost use Rattle.std.specs.Prelude.{◌≡◌, ◌+◌, ◌-◌, ◌*◌, leb, drop};
 ghost use Rattle.script.specs.Reading.{blank, is_digit, is_letter, turned, spelt, opened, grown, first, letter, start, digit, step, fed, line_of, until_feed};
 

@@ -1,4 +1,6 @@
 // The two tables of route search side by side: the definitions stand in specs/, the laws in proofs/. A route found or made for it.
+#![tactic(auto)]
+
 ghost use Rattle.std.specs.Prelude.{◌≡◌, take};
 ghost use Rattle.flat_map.specs.Seek.{place_of};
 ghost use Rattle.route_table.specs.Table.{in_columns, WellFormed, rows_of};

@@ -1,5 +1,7 @@
 // The benchmark's calls for Rust: a state of a size is filled, and every row of the inputs is a call on it.
 // Each hands back the sum of the answers, of the exported form or of the core form.
+#![tactic(auto)]
+
 pub mod decisions;
 
 #[unsafe(no_mangle)]

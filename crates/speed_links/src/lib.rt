@@ -1,5 +1,7 @@
 // What the benchmark runs of the link statuses: many calls on one state, in the exported form and on columns that are lent.
 // A row of the inputs is eight numbers. The answers are added up, so that they can be compared with the Rust's.
+#![tactic(auto)]
+
 ghost use Rattle.std.specs.Prelude.{◌≡◌};
 ghost use Rattle.neighbor_columns.specs.Table.{in_columns, WellFormed};
 ghost use Rattle.waiting_columns.specs.Table as waits;

@@ -1,5 +1,7 @@
 // What the benchmark runs of the route records: many calls on one state and store, in the exported form and on columns that are lent.
 // A row of the inputs is eight numbers. The answers are added up, so that they can be compared with the Rust's.
+#![tactic(auto)]
+
 ghost use Rattle.std.specs.Prelude.{◌≤◌};
 ghost use Rattle.record_table.specs.Table.{in_columns};
 ghost use Rattle.relay_store.specs.Store.{Agrees};

@@ -1,5 +1,7 @@
 // What the benchmark runs of the route searches: many calls on one state, in the exported form and on columns that are lent.
 // A row of the inputs is eight numbers. The answers are added up, so that they can be compared with the Rust's.
+#![tactic(auto)]
+
 ghost use Rattle.search_tables.specs.Packed.{in_columns, WellFormed};
 
 use route_begin::{BeginAnswer, BeginResult};

@@ -1,9 +1,11 @@
 // The words of the routing rules: what a row of each table holds, field by field, and what a call can say.
 // The rules over them are definitions, in specs/.
+#![tactic(auto)]
+
 use types::Nwk;
 
 // How a route stands, in the specification's number order.
-#[derive(Drop)]
+#[derive(Clone, Copy)]
 pub enum Status {
     Active,
     DiscoveryUnderway,
@@ -12,7 +14,7 @@ pub enum Status {
 }
 
 // A row of the route table.
-#[derive(Drop)]
+#[derive(Clone, Copy)]
 pub struct RouteEntry {
     pub destination: Nwk,
     pub status: Status,
@@ -27,7 +29,7 @@ pub struct RouteEntry {
 }
 
 // A row of the route discovery table.
-#[derive(Drop)]
+#[derive(Clone, Copy)]
 pub struct DiscoveryEntry {
     pub route_request_id: u8,
     pub source_address: Nwk,
@@ -78,7 +80,7 @@ pub enum RouteReplyDisposition {
 }
 
 // Relays, the one next to the destination first, at most 32: what a list given names, whose count may pass its places, or what an answer names.
-#[derive(Drop)]
+#[derive(Clone, Copy)]
 pub struct RelayList {
     pub count: usize,
     pub addresses: [Nwk; 32],

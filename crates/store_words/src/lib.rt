@@ -1,4 +1,6 @@
 // The words that change the relay store itself, which a script uses to lend a store that is wrong; and the fresh state.
+#![tactic(auto)]
+
 ghost use Rattle.std.specs.Prelude.{◌≡◌};
 ghost use Rattle.store_words.specs.Turns.{reset_turn, cleared, set_turn, stored, length_turn};
 

@@ -1,3 +1,1 @@
-pub mod Noting
-pub mod Lending
 pub mod InState

@@ -1,11 +1,13 @@
 // The two trigger counters of the routing state as a small record, by value and lent for change.
 // A function that is lent the record is proved by a walk of its code, by hand; the work is done by value, where the code is covered.
+#![tactic(auto)]
+
 ghost use Rattle.std.specs.Prelude.{◌≡◌};
 ghost use Rattle.routing.specs.Queries.{next_count, fires_at};
 ghost use Rattle.triggers.specs.Triggers.{counters_of, noted, noted_error, noted_failure, zeroed, counted_by};
 
 // The signals counted toward an early many-to-one route request.
-#[derive(Drop)]
+#[derive(Clone, Copy)]
 pub struct Triggers {
     pub mtorr_route_errors: u8,
     pub mtorr_delivery_failures: u8,

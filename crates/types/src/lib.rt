@@ -1,4 +1,6 @@
 // The kinds of number that every part shares: addresses, refusals, the clock's sum, and counters that stop.
+#![tactic(auto)]
+
 ghost use Rattle.std.specs.Prelude.{◌≡◌, ◌+◌, ◌-◌, ◌%◌, min};
 ghost use Rattle.types.specs.Refusal.{refusal_number};
 ghost use Rattle.types.specs.Clock.{time_sum};
@@ -7,15 +9,15 @@ ghost use Rattle.types.specs.Clock.{time_sum};
 pub const LAST_TIME: u64 = 18446744073709551615;
 
 // A network address: 16 bits, given by the network.
-#[derive(Drop)]
+#[derive(Clone, Copy)]
 pub struct Nwk(pub u16);
 
 // An extended address: its eight over-the-air bytes, the first as the most significant, so that numbers go in the Rust's order.
-#[derive(Drop)]
+#[derive(Clone, Copy)]
 pub struct Eui64(pub u64);
 
 // Why a call is refused, in the order of the refusals' numbers.
-#[derive(Drop)]
+#[derive(Clone, Copy)]
 pub enum Refusal {
     RouteTableFull,
     DiscoveryTableFull,

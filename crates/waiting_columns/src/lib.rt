@@ -1,5 +1,7 @@
 // The waiting table, link samples of senders that are no neighbours yet, in columns of numbers that are lent and changed in place.
 // Each function is a step on the senders that the columns hold.
+#![tactic(auto)]
+
 ghost use Rattle.std.specs.Prelude.{◌≡◌, ◌+◌, ◌-◌, ◌≤◌, ◌<◌, leb, length, take, get_or};
 ghost use Rattle.std.proofs.Math.Option.{none, some};
 ghost use Rattle.flat_map.specs.Seek.{place_of};

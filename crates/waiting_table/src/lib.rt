@@ -1,4 +1,6 @@
 // A row of the waiting table: a sender that is no neighbour yet, with the samples of its link.
+#![tactic(auto)]
+
 use ring_buffer::RingBuffer;
 use types::Nwk;
 

@@ -1,4 +1,6 @@
 // The table of the language's words: which call a word names, and whether numbers have the shape of that call's.
+#![tactic(auto)]
+
 ghost use Rattle.std.specs.Prelude.{◌≡◌, true, false, cond, List, [], ◌∷◌, ℕ, ◌+◌, ◌-◌, ◌<◌, drop};
 ghost use Rattle.words.specs.Shape.{is_option, is_list, most, most_of_others, within, passes, passes_mode, items, item, is_end, fits_shape};
 ghost use Rattle.words.specs.Words.{past, tried, counted, seek, called_in, called};
@@ -76,8 +78,8 @@ record_transmit_failure q.
 reset_transmit_failures .
 on_link_status aqaybbql.
 clear_end_device_initiator_for_relay fvdbbbbbbtaayy?q?q?y!yn.
-resolve bbym_anfvdbbbbbbtaayy?q?q?y!yn.
-resolve_default m_anfvdbbbbbbtaayy?q?q?y!yn.
+resolve bbymAnfvdbbbbbbtaayy?q?q?y!yn.
+resolve_default mAnfvdbbbbbbtaayy?q?q?y!yn.
 discovery_count .
 discovery_at q.
 record_count .

@@ -1,4 +1,6 @@
 // The two states that a script's calls are made on, side by side, and a call's answer with the world after it.
+#![tactic(auto)]
+
 ghost use Rattle.std.specs.Prelude.{◌≡◌};
 ghost use Rattle.world.specs.Worlds.{fresh_world, asked, routed, neighboured};
 
@@ -6,7 +8,7 @@ use neighbors::Neighbors;
 use numbers::Answer;
 use routing::Routing;
 
-#[derive(Drop)]
+#[derive(Clone, Copy)]
 pub struct World {
     pub routing: Routing,
     pub neighbors: Neighbors,

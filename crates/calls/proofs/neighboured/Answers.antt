@@ -1,0 +1,5 @@
+-- The state is put back beside the other.
+use Rattle.calls.proofs.neighboured.Goals as goal
+
+pub returns : goal.returns
+returns c = c.neighboured.ensures

@@ -1,0 +1,13 @@
+-- The first place with the address, where one is given.
+use native.Mathlib.Omega.{arith}
+use Rattle.children_lent.proofs.Places.{addressed, no_address}
+use Rattle.children_lent.proofs.place_addressed.Goals as goal
+
+pub first16-requires : goal.first16-requires
+first16-requires c = (c.requires.0, omega (arith, c.requires.1))
+
+pub returns-in-Given : goal.returns-in-Given
+returns-in-Given c = addressed c.args.nwks.now c.args.count c.args.nwk _ _ c.in-Given.is c.first16.ensures
+
+pub returns-in-Absent : goal.returns-in-Absent
+returns-in-Absent c = no_address c.args.nwks.now c.args.count c.args.nwk c.in-Absent.is

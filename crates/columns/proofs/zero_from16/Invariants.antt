@@ -1,0 +1,13 @@
+-- The answer so far tells of the places passed. The measure is the places left.
+use Prim.Native.Nat.{ℕ, ◌≤◌, ◌-◌}
+use mathlib.Core.Path.{◌≡◌}
+use lib.ListN.{length, get_or}
+use Rattle.standard.specs.Tells.{Tells}
+use Rattle.columns.proofs.Tested.{Passed}
+use Rattle.columns.proofs.zero_from16.Given as goal
+
+abbrev pub invariant-loop-i : goal.invariant-loop-i
+invariant-loop-i l = (l.n ≤ l.i) × Tells (Passed (λ (j : ℕ). get_or l.a j 0 ≡ 0) l.n l.i) l.ok
+
+abbrev pub decreases-loop-i : goal.decreases-loop-i
+decreases-loop-i l = length l.a - l.i

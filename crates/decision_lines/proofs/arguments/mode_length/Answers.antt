@@ -1,0 +1,5 @@
+-- The smaller of the number and the last picks from the list of all.
+use Rattle.decision_lines.proofs.arguments.mode_length.Goals as goal
+
+pub returns : goal.returns
+returns c = rw c.at_most-i.ensures

@@ -1,0 +1,31 @@
+-- Columns that are not well formed are refused; in any others what the rule leaves, with the id if it was used, is the call's state, and its answer is said.
+use Prim.Native.Nat.{ℕ}
+use mathlib.Core.Path.{refl}
+use borrow.Author.Tests.{not-true, not-false}
+use Rattle.standard.specs.Route.{nwk}
+use Rattle.route_begin.specs.Answer.{BeginStep, begun}
+use Rattle.routing.specs.Search.{begin_discovery}
+use Rattle.routing.specs.declared.Routing.{Routing}
+use Rattle.routing.specs.State.{rows_in, well_formed}
+use Rattle.routing.proofs.State.{search-formed}
+use Rattle.door.specs.Lent.{Counters, lent_with, the_id}
+use Rattle.door.proofs.Lent.{test_of, formed-of, formed-in, says-as, ill-made, rule-made}
+use Rattle.door_begin.proofs.Begun.{begun-keeps, answer-as, state-as}
+use Rattle.door_begin.proofs.warpteasel_raw_begin_discovery.Goals as goal
+
+pub returns-then-not-columns_formed : goal.returns-then-not-columns_formed
+unfolding begin_discovery
+returns-then-not-columns_formed c = ill-made well_formed _ _ (test_of _ _ _ (λ _. c.columns_formed.ensures) (not-true _ c.if-not-columns_formed.true-raw)) (λ _. refl) (λ _. record { status = refl; places = refl })
+
+pub begin-x-requires : goal.begin-x-requires
+begin-x-requires c = search-formed _ (formed-in _ _ _ _ c.columns_formed.ensures (not-false _ c.if-not-columns_formed.false-raw))
+
+pub returns : goal.returns
+unfolding begin_discovery
+returns c =
+    let a = c.args in
+    let s : Counters → Routing = lent_with (the_id a.request_sequence_number.now) a.route_keys.now a.route_words.now a.route_usage.now a.routes.now a.discovery_keys.now a.discovery_words.now a.discovery_ends.now a.discoveries.now a.record_keys.now a.record_lengths.now a.records in
+    let step : ℕ → BeginStep = λ (id : ℕ). begun (rows_in (s (record { errors = 0; failures = 0; id = 0 }))) (nwk a.own) id (nwk a.destination) a.now_ms a.route_discovery_time in
+    rule-made well_formed _ _ (test_of s _ _ (λ _. c.columns_formed.ensures) (not-false _ c.if-not-columns_formed.false-raw))
+    (λ k. state-as (s k) step c.next_id-id.result c.next_id-id.ensures _ c.begin-x.ensures.said (formed-of (s k) _ c.columns_formed.ensures (not-false _ c.if-not-columns_formed.false-raw)) (begun-keeps (rows_in (s k)) (nwk a.own) c.next_id-id.result (nwk a.destination) a.now_ms a.route_discovery_time) c.begin-x.ensures.left c.say_begun.ensures.last)
+    (λ k. says-as (answer-as (s k) step c.next_id-id.result c.next_id-id.ensures _ c.begin-x.ensures.said) c.say_begun.ensures.said)

@@ -1,0 +1,9 @@
+-- The test decides, as the definition goes.
+use borrow.Author.Tests.{lt-ltb, le-ltb}
+use Rattle.door_lists.proofs.places_filled.Goals as goal
+
+pub returns-then-n-gt64 : goal.returns-then-n-gt64
+returns-then-n-gt64 c = rw (lt-ltb 64 c.args.n c.if-n-gt64.true)
+
+pub returns-else-n-gt64 : goal.returns-else-n-gt64
+returns-else-n-gt64 c = rw (le-ltb 64 c.args.n c.if-n-gt64.false)

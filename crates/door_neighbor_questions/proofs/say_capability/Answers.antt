@@ -1,0 +1,14 @@
+-- Case by case, as the definition goes.
+use mathlib.Core.Path.{refl, sym}
+use Rattle.door.proofs.Lent.{says-as}
+use Rattle.door_neighbor_questions.specs.Questions.{capability_at}
+use Rattle.door_neighbor_questions.proofs.say_capability.Goals as goal
+
+pub returns-in-Is : goal.returns-in-Is
+returns-in-Is c = says-as (sym c.in-Is.is) (record { status = refl; places = λ z. capability_at 1 (c.number.ensures z) (c.flag.ensures z) })
+
+pub returns-in-Nothing : goal.returns-in-Nothing
+returns-in-Nothing c = says-as (sym c.in-Nothing.is) (record { status = refl; places = refl })
+
+pub returns-in-Refused : goal.returns-in-Refused
+returns-in-Refused c = says-as (sym c.in-Refused.is) (record { status = c.number-in-Refused.ensures; places = refl })

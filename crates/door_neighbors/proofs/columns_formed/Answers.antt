@@ -1,0 +1,5 @@
+-- The tests of the two tables, in the definition's order.
+use Rattle.door_neighbors.proofs.columns_formed.Goals as goal
+
+pub returns : goal.returns
+returns c = rw (c.well_formed-known.ensures, c.well_formed.ensures)

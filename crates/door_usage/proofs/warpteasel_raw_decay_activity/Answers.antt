@@ -1,0 +1,18 @@
+-- Columns that are not well formed are refused; in any others what the rule leaves is the call's state.
+use mathlib.Core.Path.{refl}
+use borrow.Author.Tests.{not-true, not-false}
+use Rattle.routing.specs.Routes.{decay_activity}
+use Rattle.routing.specs.State.{well_formed}
+use Rattle.door.proofs.Lent.{test_of, formed-in, routes-left, ill-made, rule-made}
+use Rattle.door_usage.proofs.warpteasel_raw_decay_activity.Goals as goal
+
+pub returns-then-not-columns_formed : goal.returns-then-not-columns_formed
+unfolding decay_activity
+returns-then-not-columns_formed c = ill-made well_formed _ _ (test_of _ _ _ (λ _. c.columns_formed.ensures) (not-true _ c.if-not-columns_formed.true-raw)) (λ _. refl) (λ _. record { status = refl; places = refl })
+
+pub decay_activity-requires : goal.decay_activity-requires
+decay_activity-requires c = (formed-in _ _ _ _ c.columns_formed.ensures (not-false _ c.if-not-columns_formed.false-raw)).routes
+
+pub returns : goal.returns
+unfolding decay_activity
+returns c = rule-made well_formed _ _ (test_of _ _ _ (λ _. c.columns_formed.ensures) (not-false _ c.if-not-columns_formed.false-raw)) (λ _. routes-left _ _ _ _ _ _ _ c.decay_activity.ensures) (λ _. record { status = refl; places = refl })

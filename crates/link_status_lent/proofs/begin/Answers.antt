@@ -1,0 +1,10 @@
+-- By the test.
+use Rattle.link_status_lent.proofs.begin.Goals as goal
+
+pub returns-then-first : goal.returns-then-first
+returns-then-first c =
+    rw c.if-first.true
+
+pub returns-else-first : goal.returns-else-first
+returns-else-first c =
+    rw c.if-first.false

@@ -1,0 +1,15 @@
+-- Case by case.
+use mathlib.Core.Path.{sym, ap, ◌∙◌}
+use Rattle.neighbor_answers.specs.Answers.{eui64_said}
+use Rattle.neighbor_queries.specs.declared.Eui64Answer.{Eui64Answer}
+use Rattle.numbers.specs.Said.{spoken}
+use Rattle.neighbor_answers.proofs.eui64_answer.Goals as goal
+
+pub returns-in-Is : goal.returns-in-Is
+returns-in-Is c = c.given_one.ensures ∙ ap (λ (a : Eui64Answer). spoken (eui64_said a)) (sym c.in-Is.is)
+
+pub returns-in-Nothing : goal.returns-in-Nothing
+returns-in-Nothing c = c.absent.ensures ∙ ap (λ (a : Eui64Answer). spoken (eui64_said a)) (sym c.in-Nothing.is)
+
+pub returns-in-Refused : goal.returns-in-Refused
+returns-in-Refused c = c.refused.ensures ∙ ap (λ (a : Eui64Answer). spoken (eui64_said a)) (sym c.in-Refused.is)

@@ -1,0 +1,5 @@
+-- The answer is said beside the state that the call leaves.
+use Rattle.neighbor_groups.proofs.child.removal_reply.Goals as goal
+
+pub returns : goal.returns
+returns c = rw c.children_answer-said.ensures

@@ -1,0 +1,20 @@
+-- A state that is not well formed is refused; of any other the answer is that of its columns.
+-- Assumes nothing.
+use mathlib.Core.Path.{sym, ◌∙◌}
+use borrow.Author.Tests.{not-true, not-false}
+use Rattle.neighbor_queries_lent.proofs.Ready.{words-in-use}
+use Rattle.neighbors.specs.Queries.{end_device_child_count}
+use Rattle.neighbors.specs.State.{table_in}
+use Rattle.neighbors.proofs.State.{state-told}
+use Rattle.neighbors.proofs.Neighbors.end_device_child_count.Goals as goal
+
+pub returns-then-not-well_formed : goal.returns-then-not-well_formed
+unfolding end_device_child_count
+returns-then-not-well_formed c = rw (sym c.well_formed-2.ensures ∙ not-true _ c.if-not-well_formed.true-raw)
+
+pub end_device_child_count-requires : goal.end_device_child_count-requires
+end_device_child_count-requires c = words-in-use _ ((state-told _).fact (sym c.well_formed-2.ensures ∙ not-false _ c.if-not-well_formed.false-raw)).table.formed
+
+pub returns : goal.returns
+unfolding end_device_child_count
+returns c = rw ((sym c.well_formed-2.ensures ∙ not-false _ c.if-not-well_formed.false-raw), c.end_device_child_count.ensures (table_in c.args.self) ((state-told _).fact (sym c.well_formed-2.ensures ∙ not-false _ c.if-not-well_formed.false-raw)).table.formed)

@@ -1,0 +1,7 @@
+-- The number is the address.
+use Prim.Native.Nat.{ℕ}
+use mathlib.Core.Path.{ap}
+use Rattle.numbers.proofs.eui64.Goals as goal
+
+pub returns : goal.returns
+returns c = ap (λ (n : ℕ). record { 0 = n }) c.at.ensures

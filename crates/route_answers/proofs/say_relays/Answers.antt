@@ -1,0 +1,6 @@
+-- The relays are put after the first number.
+use mathlib.Core.Path.{◌∙◌}
+use Rattle.route_answers.proofs.say_relays.Goals as goal
+
+pub returns : goal.returns
+returns c = c.answered.ensures ∙ rw (c.push_relays.ensures, c.push-m.ensures, c.none-n.ensures)

@@ -1,0 +1,32 @@
+-- The route found is stored over without its mark; where it is missing nothing is written.
+-- Assumes nothing.
+use mathlib.Core.Path.{sym, ◌∙◌}
+use Rattle.standard.specs.Route.{record_known}
+use Rattle.route_table.specs.Table.{in_columns}
+use Rattle.route_table.proofs.Rows.{in-columns, place-within}
+use Rattle.route_calls.proofs.Rules.{known-key, left-as-is, change-place, changed}
+use Rattle.route_calls.proofs.note_source_routed_frame.Goals as goal
+
+pub returns-in_default : goal.returns-in_default
+returns-in_default c =
+    let a = c.args in
+    let t = in_columns a.route_keys.now a.route_words.now a.route_usage.now a.routes in
+    left-as-is t c.requires a.concentrator.0 _ record_known (sym c.in_default.is ∙ c.place_of.ensures)
+
+pub entry_at-e-requires : goal.entry_at-e-requires
+entry_at-e-requires c =
+    let a = c.args in
+    let t = in_columns a.route_keys.now a.route_words.now a.route_usage.now a.routes in
+    in-columns t c.requires _ (place-within t c.requires a.concentrator.0 _ (sym c.in-Found.is ∙ c.place_of.ensures))
+
+pub set_at-requires : goal.set_at-requires
+set_at-requires c =
+    let a = c.args in
+    let t = in_columns a.route_keys.now a.route_words.now a.route_usage.now a.routes in
+    (c.requires, change-place t c.requires a.concentrator.0 _ record_known (sym c.in-Found.is ∙ c.place_of.ensures) _ _ c.entry_at-e.ensures c.record_known.ensures known-key)
+
+pub returns : goal.returns
+returns c =
+    let a = c.args in
+    let t = in_columns a.route_keys.now a.route_words.now a.route_usage.now a.routes in
+    changed t c.requires a.concentrator.0 _ record_known (sym c.in-Found.is ∙ c.place_of.ensures) _ _ c.entry_at-e.ensures c.record_known.ensures _ c.set_at.ensures

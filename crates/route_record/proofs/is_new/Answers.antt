@@ -1,0 +1,21 @@
+-- An address that has a record is not new; of one that has none, the relays before it decide.
+-- Assumes nothing.
+use mathlib.Core.Path.{sym, ◌∙◌}
+use lib.ListN.{take}
+use Rattle.record_table.specs.Table.{in_columns}
+use Rattle.record_table.proofs.Rows.{found-row, missing-row}
+use Rattle.relay_store.specs.Store.{relays_of}
+use Rattle.route_record.proofs.Room.{known-told, missing-told}
+use Rattle.route_record.proofs.is_new.Goals as goal
+
+pub returns-in-Found : goal.returns-in-Found
+returns-in-Found c =
+    let a = c.args in
+    let t = in_columns a.keys.now a.lengths.now a.count in
+    known-told t a.a (take a.before (relays_of a.relays)) (found-row t c.requires.0 a.a.0 _ (sym c.in-Found.is ∙ c.place_of-place.ensures))
+
+pub returns-in-Missing : goal.returns-in-Missing
+returns-in-Missing c =
+    let a = c.args in
+    let t = in_columns a.keys.now a.lengths.now a.count in
+    rw c.is_among.ensures (missing-told t a.a (take a.before (relays_of a.relays)) (missing-row t c.requires.0 a.a.0 _ (sym c.in-Missing.is ∙ c.place_of-place.ensures)))

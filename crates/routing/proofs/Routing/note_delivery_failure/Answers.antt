@@ -1,0 +1,14 @@
+-- A state that is not well formed is refused as it is; in any other the counter that stops is written, and compared.
+-- Assumes nothing.
+use mathlib.Core.Path.{sym, ◌∙◌}
+use borrow.Author.Tests.{not-true, not-false}
+use Rattle.routing.specs.Queries.{note_delivery_failure}
+use Rattle.routing.proofs.Routing.note_delivery_failure.Goals as goal
+
+pub returns-then-not-well_formed : goal.returns-then-not-well_formed
+unfolding note_delivery_failure
+returns-then-not-well_formed c = rw (sym c.well_formed-2.ensures ∙ not-true _ c.if-not-well_formed.true-raw) c.refuse_told.ensures
+
+pub returns : goal.returns
+unfolding note_delivery_failure
+returns c = rw (sym c.well_formed-2.ensures ∙ not-false _ c.if-not-well_formed.false-raw, c.saturating_add_u8-count.ensures)

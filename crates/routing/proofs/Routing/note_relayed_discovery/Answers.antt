@@ -1,0 +1,20 @@
+-- A state that is not well formed is refused as it is; in any other the columns that the call leaves are put back, and they are those of its rows.
+-- Assumes nothing.
+use mathlib.Core.Path.{sym, ◌∙◌}
+use borrow.Author.Tests.{not-true, not-false}
+use Rattle.routing.specs.Routes.{note_relayed_discovery}
+use Rattle.routing.proofs.State.{state-told, held-routes}
+use Rattle.routing.proofs.Routing.note_relayed_discovery.Goals as goal
+
+pub returns-then-not-well_formed : goal.returns-then-not-well_formed
+unfolding note_relayed_discovery
+returns-then-not-well_formed c = rw (sym c.well_formed-2.ensures ∙ not-true _ c.if-not-well_formed.true-raw) c.refuse_done.ensures
+
+pub note_relayed_discovery-x-requires : goal.note_relayed_discovery-x-requires
+note_relayed_discovery-x-requires c = ((state-told _).fact (sym c.well_formed-2.ensures ∙ not-false _ c.if-not-well_formed.false-raw)).routes
+
+pub returns : goal.returns
+unfolding note_relayed_discovery
+returns c =
+    rw (sym c.well_formed-2.ensures ∙ not-false _ c.if-not-well_formed.false-raw)
+    (λ z. record { answer = c.note_relayed_discovery-x.ensures.said z; state = held-routes c.args.self _ _ c.note_relayed_discovery-x.ensures.left z })

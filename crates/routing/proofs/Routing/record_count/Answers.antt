@@ -1,0 +1,18 @@
+-- A state that is not well formed is refused; any other has as many rows as its count says.
+-- Assumes nothing.
+use mathlib.Core.Path.{sym, ◌∙◌}
+use borrow.Author.Tests.{not-true, not-false}
+use Rattle.record_table.proofs.Rows.{many}
+use Rattle.routing.specs.Records.{record_count}
+use Rattle.routing.proofs.State.{state-told}
+use Rattle.routing.proofs.Routing.record_count.Goals as goal
+
+pub returns-then-not-well_formed : goal.returns-then-not-well_formed
+unfolding record_count
+returns-then-not-well_formed c = rw (sym c.well_formed-2.ensures ∙ not-true _ c.if-not-well_formed.true-raw)
+
+pub returns : goal.returns
+unfolding record_count
+returns c =
+    let good = sym c.well_formed-2.ensures ∙ not-false _ c.if-not-well_formed.false-raw in
+    rw (good, many _ ((state-told _).fact good).records)

@@ -1,0 +1,40 @@
+-- A state that is not well formed and a store that disagrees are refused; in any other the columns that the call leaves are put back, and they and the store are those of its records.
+-- Assumes nothing.
+use mathlib.Core.Path.{sym, ◌∙◌}
+use borrow.Author.Tests.{not-true, not-false}
+use Rattle.relay_store.proofs.Agree.{agrees-told}
+use Rattle.route_record.specs.Answer.{removed_step}
+use Rattle.routing.specs.declared.ToldAnswer.TheVariants.{Told}
+use Rattle.routing.specs.Records.{remove_route_record, store_after_removal}
+use Rattle.routing.proofs.State.{state-told, held-records}
+use Rattle.routing.proofs.Routing.remove_route_record.Goals as goal
+
+pub returns-then-not-well_formed : goal.returns-then-not-well_formed
+unfolding remove_route_record store_after_removal
+returns-then-not-well_formed c =
+    let ill = sym c.well_formed-2.ensures ∙ not-true _ c.if-not-well_formed.true-raw in
+    (rw ill c.refuse_told.ensures, rw ill)
+
+pub agrees-requires : goal.agrees-requires
+agrees-requires c = (state-told _).fact (sym c.well_formed-2.ensures ∙ not-false _ c.if-not-well_formed.false-raw)
+
+pub returns-then-not-agrees : goal.returns-then-not-agrees
+unfolding remove_route_record store_after_removal
+returns-then-not-agrees c =
+    let good = sym c.well_formed-2.ensures ∙ not-false _ c.if-not-well_formed.false-raw in
+    let off = sym c.agrees.ensures ∙ not-true _ c.if-not-agrees.true-raw in
+    (rw (good, off) c.refuse_told-then-not-agrees.ensures, rw (good, off))
+
+pub remove_record-x-requires : goal.remove_record-x-requires
+remove_record-x-requires c =
+    let good = sym c.well_formed-2.ensures ∙ not-false _ c.if-not-well_formed.false-raw in
+    let fit = sym c.agrees.ensures ∙ not-false _ c.if-not-agrees.false-raw in
+    record { formed = ((state-told _).fact good).records; agrees = (agrees-told _ _).fact fit }
+
+pub returns : goal.returns
+unfolding remove_route_record store_after_removal removed_step
+returns c =
+    let good = sym c.well_formed-2.ensures ∙ not-false _ c.if-not-well_formed.false-raw in
+    let fit = sym c.agrees.ensures ∙ not-false _ c.if-not-agrees.false-raw in
+    let held = held-records c.args.self _ _ _ c.remove_record-x.ensures.holds in
+    (rw (good, fit) (λ z. record { answer = Told (c.remove_record-x.ensures.answers z); state = held.0 z }), rw (good, fit) held.1)

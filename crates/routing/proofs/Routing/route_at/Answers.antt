@@ -1,0 +1,18 @@
+-- A state that is not well formed is refused; of any other the answer is the table's.
+-- Assumes nothing.
+use mathlib.Core.Path.{sym, ◌∙◌}
+use borrow.Author.Tests.{not-true, not-false}
+use Rattle.routing.specs.Queries.{route_at}
+use Rattle.routing.proofs.State.{state-told}
+use Rattle.routing.proofs.Routing.route_at.Goals as goal
+
+pub returns-then-not-well_formed : goal.returns-then-not-well_formed
+unfolding route_at
+returns-then-not-well_formed c = rw (sym c.well_formed-2.ensures ∙ not-true _ c.if-not-well_formed.true-raw)
+
+pub at-answer-requires : goal.at-answer-requires
+at-answer-requires c = ((state-told _).fact (sym c.well_formed-2.ensures ∙ not-false _ c.if-not-well_formed.false-raw)).routes
+
+pub returns : goal.returns
+unfolding route_at
+returns c = rw (sym c.well_formed-2.ensures ∙ not-false _ c.if-not-well_formed.false-raw, c.at-answer.ensures)

@@ -1,0 +1,11 @@
+-- Each hop's answer is taken apart, and its own way said, as the definition goes.
+-- Assumes nothing.
+use mathlib.Core.Path.{sym, ap}
+use Rattle.routing.specs.Records.{hop_to}
+use Rattle.routing.proofs.records.hop_to.Goals as goal
+
+pub returns-in-Hop : goal.returns-in-Hop
+returns-in-Hop c = ap hop_to (sym c.in-Hop.is)
+
+pub returns-in-Unknown : goal.returns-in-Unknown
+returns-in-Unknown c = ap hop_to (sym c.in-Unknown.is)

@@ -1,0 +1,8 @@
+-- The call is made with what the numbers give and with the store, and its outcome said.
+use mathlib.Core.Path.{◌∙◌}
+use Rattle.routing_groups.specs.Recorded.{store_route_record_call, store_route_record_store}
+use Rattle.routing_groups.proofs.records.store_route_record.Goals as goal
+
+pub returns : goal.returns
+unfolding store_route_record_call store_route_record_store
+returns c = (c.record_reply.ensures ∙ rw (c.store_route_record-o.ensures.0, c.relays-l.ensures, c.nwk-source.ensures), c.store_route_record-o.ensures.1 ∙ rw (c.relays-l.ensures, c.nwk-source.ensures))

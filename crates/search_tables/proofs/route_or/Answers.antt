@@ -1,0 +1,30 @@
+-- By the place: a route found is the look-up's, and where there is none the definition makes one.
+-- Assumes nothing.
+use mathlib.Core.Option.{Option, get_or}
+use mathlib.Core.Path.{sym, ap, ◌∙◌}
+use Rattle.standard.specs.declared.RouteEntry.{RouteEntry}
+use Rattle.standard.specs.declared.Status.TheVariants.{Inactive}
+use Rattle.standard.specs.Route.{new_route, unknown_hop}
+use Rattle.route_table.specs.Table.{in_columns}
+use Rattle.route_table.proofs.Rows as routes
+use Rattle.search_tables.proofs.route_or.Goals as goal
+
+pub entry_at-requires : goal.entry_at-requires
+entry_at-requires c =
+    let a = c.args in
+    let t = in_columns a.keys.now a.words.now a.usage.now a.count in
+    routes.in_columns t c.requires.0 _ (routes.place-within t c.requires.0 _ _ (sym c.in-Found.is ∙ c.requires.1))
+
+pub returns-in-Found : goal.returns-in-Found
+returns-in-Found c =
+    let a = c.args in
+    let t = in_columns a.keys.now a.words.now a.usage.now a.count in
+    c.entry_at.ensures
+    ∙ sym (ap (λ (o : Option RouteEntry). get_or o (new_route a.destination Inactive unknown_hop)) (routes.found-row t c.requires.0 _ _ (sym c.in-Found.is ∙ c.requires.1)))
+
+pub returns-in-Missing : goal.returns-in-Missing
+returns-in-Missing c =
+    let a = c.args in
+    let t = in_columns a.keys.now a.words.now a.usage.now a.count in
+    c.new_route.ensures
+    ∙ sym (ap (λ (o : Option RouteEntry). get_or o (new_route a.destination Inactive unknown_hop)) (routes.missing-row t c.requires.0 _ _ (sym c.in-Missing.is ∙ c.requires.1)))

@@ -1,0 +1,51 @@
+-- The place is that of the entry's key: its samples are stored over those that are there, or put in where there is room.
+-- Both are `put` on the entries.
+use native.Mathlib.Omega.{arith}
+use mathlib.Core.Path.{sym, ◌∙◌}
+use Rattle.waiting_columns.specs.Table.{in_columns}
+use Rattle.waiting_columns.proofs.Rows.{in-columns, place-within, missing-within, free, stored-over, put_in}
+use Rattle.waiting_columns.proofs.put_at.Goals as goal
+
+pub offset_bounds-samples-i : goal.offset_bounds-samples-i
+offset_bounds-samples-i c =
+    let a = c.args in
+    let t = in_columns a.keys.now a.samples.now a.count in
+    omega (arith, (in-columns t c.requires.0 _ (place-within t c.requires.0 _ _ (sym c.in-Found.is ∙ c.requires.1))).1)
+
+pub bounds-samples-i : goal.bounds-samples-i
+bounds-samples-i c =
+    let a = c.args in
+    let t = in_columns a.keys.now a.samples.now a.count in
+    omega (arith, (in-columns t c.requires.0 _ (place-within t c.requires.0 _ _ (sym c.in-Found.is ∙ c.requires.1))).1)
+
+pub shift16-requires : goal.shift16-requires
+shift16-requires c =
+    let a = c.args in
+    let t = in_columns a.keys.now a.samples.now a.count in
+    let p = sym c.in-Missing.is ∙ c.requires.1 in
+    let room = free t c.requires.0 _ _ p c.requires.2 in
+    omega (arith, room, missing-within t c.requires.0 _ _ p, c.requires.0.ordered.long.0)
+
+pub shift64-requires : goal.shift64-requires
+shift64-requires c =
+    let a = c.args in
+    let t = in_columns a.keys.now a.samples.now a.count in
+    let p = sym c.in-Missing.is ∙ c.requires.1 in
+    let room = free t c.requires.0 _ _ p c.requires.2 in
+    omega (arith, room, missing-within t c.requires.0 _ _ p, c.requires.0.ordered.long.1.0)
+
+pub returns-in-Found : goal.returns-in-Found
+returns-in-Found c =
+    let a = c.args in
+    let t = in_columns a.keys.now a.samples.now a.count in
+    let q = c.word-w.ensures in
+    rw q.0 (stored-over t c.requires.0 a.e q.2 _ (sym c.in-Found.is ∙ c.requires.1))
+
+pub returns-in-Missing : goal.returns-in-Missing
+returns-in-Missing c =
+    let a = c.args in
+    let t = in_columns a.keys.now a.samples.now a.count in
+    let p = sym c.in-Missing.is ∙ c.requires.1 in
+    let room = free t c.requires.0 _ _ p c.requires.2 in
+    let q = c.word-w.ensures in
+    rw (c.shift16.ensures, c.shift64.ensures, q.0) (put_in t c.requires.0 a.e q.2 _ p room)

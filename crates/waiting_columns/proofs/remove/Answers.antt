@@ -1,0 +1,14 @@
+-- Samples that are there are taken out at their place; where there are none the rows stay.
+use mathlib.Core.Path.{sym, ◌∙◌}
+use Rattle.waiting_columns.specs.Table.{in_columns}
+use Rattle.waiting_columns.proofs.Rows.{none_out}
+use Rattle.waiting_columns.proofs.remove.Goals as goal
+
+pub remove_at-requires : goal.remove_at-requires
+remove_at-requires c = (c.requires, sym c.in-Found.is ∙ c.place_of-place.ensures)
+
+pub returns-in-Missing : goal.returns-in-Missing
+returns-in-Missing c =
+    let a = c.args in
+    let t = in_columns a.keys.now a.samples.now a.count in
+    none_out t c.requires _ _ (sym c.in-Missing.is ∙ c.place_of-place.ensures)
