@@ -2,12 +2,12 @@
 // Input and answers go in parts of 65,536 bytes; a line may have any length.
 #![tactic(auto)]
 
-ghost use Rattle.std.specs.Prelude.{◌≡◌, ◌+◌, ◌<◌};
-ghost use Rattle.io.specs.Counts.{IsPrefixLen};
+ghost use Rattle.std.specs.Prelude.{◌≡◌, ◌+◌, ◌<◌, ◌≤◌, length, take};
 
-use libc::{STDIN_FILENO, STDOUT_FILENO};
 use numbers::Answer;
 use script::{Line, Scan};
+use std::io;
+use std::io::Read;
 use store_words::Turn;
 use words::Meaning;
 use world::World;
@@ -35,61 +35,70 @@ struct Machine {
 
 // A number of bytes, at most all of them.
 fn of_bytes(n: usize, all: &[u8]) -> usize
-    ensures { IsPrefixLen result all.now }
+    ensures within { result ≤ length all.now }
+    ensures taken { result ≡ length (take result all.now) }
 {
     if n <= all.len() { n } else { all.len() }
 }
 
 // A number of places of the store, at most all of them.
 fn of_places(n: usize, all: &[u16]) -> usize
-    ensures { IsPrefixLen result all.now }
+    ensures within { result ≤ length all.now }
+    ensures taken { result ≡ length (take result all.now) }
 {
     if n <= all.len() { n } else { all.len() }
 }
 
 // A number of values, at most all of them.
 fn of_values(n: usize, all: &[u64]) -> usize
-    ensures { IsPrefixLen result all.now }
+    ensures within { result ≤ length all.now }
+    ensures taken { result ≡ length (take result all.now) }
 {
     if n <= all.len() { n } else { all.len() }
 }
 
 // The answers that wait, written out.
-fn flush(out: &[u8], waiting: usize) -> usize {
+fn flush(rt: &impl Print, out: &[u8], waiting: usize) -> io::Result<usize> {
     let n = of_bytes(waiting, out);
-    io::write_all(STDOUT_FILENO, &out[..n]);
-    0
+    rt.write_all(&out[..n])?;
+    Ok(0)
 }
 
 // A place with room for a line of answer, of at most 5,400 bytes.
-fn room(out: &[u8], waiting: usize) -> usize {
+fn room(rt: &impl Print, out: &[u8], waiting: usize) -> io::Result<usize> {
     if waiting < 60000 {
-        return waiting;
+        return Ok(waiting);
     }
-    flush(out, waiting)
+    flush(rt, out, waiting)
 }
 
 // One line of answer.
-fn tell(out: &mut [u8], waiting: usize, a: Answer) -> usize {
-    let at = room(out, waiting);
-    say::answer(out, at, a)
+fn tell(rt: &impl Print, out: &mut [u8], waiting: usize, a: Answer) -> io::Result<usize> {
+    let at = room(rt, out, waiting)?;
+    Ok(say::answer(out, at, a))
 }
 
 // The whole state as lines that put it, and `end`.
-fn tell_tables(world: World, store: &[u16], out: &mut [u8], waiting: usize) -> usize {
+fn tell_tables(
+    rt: &impl Print,
+    world: World,
+    store: &[u16],
+    out: &mut [u8],
+    waiting: usize,
+) -> io::Result<usize> {
     let mut to = waiting;
     let mut i: u64 = 0;
     while i < 1000 {
         let a = calls::table_line(world, i, store);
-        to = room(out, to);
+        to = room(rt, out, to)?;
         if a.kind != 0 {
-            return say::end_line(out, to);
+            return Ok(say::end_line(out, to));
         }
         let n = a.numbers;
         to = say::table_line(out, to, n);
         i += 1;
     }
-    to
+    Ok(to)
 }
 
 // Any other call, on the part of the store that is lent.
@@ -130,68 +139,88 @@ fn ready(world: World, length: usize, waiting: usize) -> Machine {
 }
 
 // A call made and answered.
-fn made(m: Machine, number: u64, args: &[u64], store: &mut [u16], out: &mut [u8]) -> Machine {
+fn made(
+    rt: &impl Print,
+    m: Machine,
+    number: u64,
+    args: &[u64],
+    store: &mut [u16],
+    out: &mut [u8],
+) -> io::Result<Machine> {
     let world = m.world;
     let length = m.length;
     if number == TABLES {
         let n = of_places(length, store);
-        return ready(
-            world,
-            length,
-            tell_tables(world, &store[..n], out, m.waiting),
-        );
+        let waiting = tell_tables(rt, world, &store[..n], out, m.waiting)?;
+        return Ok(ready(world, length, waiting));
     }
     let t = play(world, length, number, args, store);
     let next = t.world;
     let answer = t.answer;
-    ready(next, t.length, tell(out, m.waiting, answer))
+    let waiting = tell(rt, out, m.waiting, answer)?;
+    Ok(ready(next, t.length, waiting))
 }
 
 // A line that is no call.
-fn bad(m: Machine, out: &mut [u8]) -> Machine {
+fn bad(rt: &impl Print, m: Machine, out: &mut [u8]) -> io::Result<Machine> {
     let world = m.world;
-    ready(world, m.length, tell(out, m.waiting, numbers::no_call()))
+    let waiting = tell(rt, out, m.waiting, numbers::no_call())?;
+    Ok(ready(world, m.length, waiting))
 }
 
 // A word with numbers.
-fn spoken(m: Machine, word: &[u8], args: &[u64], store: &mut [u16], out: &mut [u8]) -> Machine {
+fn spoken(
+    rt: &impl Print,
+    m: Machine,
+    word: &[u8],
+    args: &[u64],
+    store: &mut [u16],
+    out: &mut [u8],
+) -> io::Result<Machine> {
     let meaning = words::called(word, args);
     match meaning {
-        Meaning::Call(number) => made(m, number, args, store, out),
-        Meaning::Bad => bad(m, out),
+        Meaning::Call(number) => made(rt, m, number, args, store, out),
+        Meaning::Bad => bad(rt, m, out),
     }
 }
 
 fn taken_apart(
+    rt: &impl Print,
     m: Machine,
     word: &[u8],
     values: &[u64],
     store: &mut [u16],
     out: &mut [u8],
-) -> Machine {
+) -> io::Result<Machine> {
     let scan = m.scan;
     let n = of_bytes(scan.length, word);
     let count = of_values(scan.count, values);
-    spoken(m, &word[..n], &values[..count], store, out)
+    spoken(rt, m, &word[..n], &values[..count], store, out)
 }
 
-fn said(scan: Scan, m: Machine, store: &mut [u16], out: &mut [u8]) -> Machine {
+fn said(
+    rt: &impl Print,
+    scan: Scan,
+    m: Machine,
+    store: &mut [u16],
+    out: &mut [u8],
+) -> io::Result<Machine> {
     let word = scan.word;
     let values = scan.values;
-    taken_apart(m, &word, &values, store, out)
+    taken_apart(rt, m, &word, &values, store, out)
 }
 
 // A whole line answered.
-fn line(m: Machine, store: &mut [u16], out: &mut [u8]) -> Machine {
+fn line(rt: &impl Print, m: Machine, store: &mut [u16], out: &mut [u8]) -> io::Result<Machine> {
     let scan = m.scan;
     let kind = script::line_of(scan);
     match kind {
         Line::Passed => {
             let world = m.world;
-            ready(world, m.length, m.waiting)
+            Ok(ready(world, m.length, m.waiting))
         }
-        Line::Call => said(scan, m, store, out),
-        Line::Bad => bad(m, out),
+        Line::Call => said(rt, scan, m, store, out),
+        Line::Bad => bad(rt, m, out),
     }
 }
 
@@ -222,19 +251,25 @@ fn after(to: usize, end: usize) -> usize
 }
 
 // A part of the input: the lines that end in it are answered, and the last one is begun.
-fn part(m: Machine, bytes: &[u8], store: &mut [u16], out: &mut [u8]) -> Machine {
+fn part(
+    rt: &impl Print,
+    m: Machine,
+    bytes: &[u8],
+    store: &mut [u16],
+    out: &mut [u8],
+) -> io::Result<Machine> {
     let mut w = m;
     let mut from: usize = 0;
     while from < bytes.len() {
         let to = script::line_end(bytes, from);
         w = read_on(w, bytes, from, to);
         if bytes.len() <= to {
-            return w;
+            return Ok(w);
         }
-        w = line(w, store, out);
+        w = line(rt, w, store, out)?;
         from = after(to, bytes.len());
     }
-    w
+    Ok(w)
 }
 
 // One read of the input; whether there was any.
@@ -244,20 +279,33 @@ struct Taken {
     more: bool,
 }
 
-fn step(m: Machine, input: &mut [u8], store: &mut [u16], out: &mut [u8]) -> Taken {
-    let got = libc::read(STDIN_FILENO, input);
-    let n = io::count(got, input);
+fn step(
+    rt: &impl Print,
+    reader: &mut impl Read,
+    m: Machine,
+    input: &mut [u8],
+    store: &mut [u16],
+    out: &mut [u8],
+) -> io::Result<Taken> {
+    let n = match reader.read(input) {
+        Ok(n) => n,
+        Err(e) => {
+            // What was answered before the read failed is still written.
+            flush(rt, out, m.waiting)?;
+            return Err(e);
+        }
+    };
     if n == 0 {
-        return Taken {
+        return Ok(Taken {
             machine: m,
             more: false,
-        };
+        });
     }
-    let machine = part(m, &input[..n], store, out);
-    Taken {
+    let machine = part(rt, m, &input[..n], store, out)?;
+    Ok(Taken {
         machine,
         more: true,
-    }
+    })
 }
 
 // The turns that are left: none where there is no more input.
@@ -269,29 +317,52 @@ fn turns_left(more: bool, turns: u64) -> u64
 }
 
 // The whole input. No run uses up the turns.
-fn read_all(m: Machine, input: &mut [u8], store: &mut [u16], out: &mut [u8]) -> Machine {
+fn read_all(
+    rt: &impl Print,
+    reader: &mut impl Read,
+    m: Machine,
+    input: &mut [u8],
+    store: &mut [u16],
+    out: &mut [u8],
+) -> io::Result<Machine> {
     let mut w = m;
     let mut turns = u64::MAX;
     while turns > 0 {
-        let s = step(w, input, store, out);
+        let s = step(rt, reader, w, input, store, out)?;
         w = s.machine;
         turns = turns_left(s.more, turns);
     }
-    w
+    Ok(w)
 }
 
 // The last line, which needs no line feed, and the answers that wait.
-fn finish(m: Machine, store: &mut [u16], out: &mut [u8]) {
-    let w = line(m, store, out);
-    flush(out, w.waiting);
+fn finish(rt: &impl Print, m: Machine, store: &mut [u16], out: &mut [u8]) -> io::Result<()> {
+    let w = line(rt, m, store, out)?;
+    flush(rt, out, w.waiting)?;
+    Ok(())
 }
 
-fn main() {
-    let mut input = io::large_buffer();
-    let mut out = io::large_buffer();
+// 65,536 zeros, for a part of the input or of the answers.
+fn large_buffer() -> [u8; 65536]
+    ensures { 65536 ≡ length result }
+{
+    [0; 65536]
+}
+
+fn main(rt: HostRuntime) -> io::Result<()> {
+    let mut reader = rt.stdin();
+    let mut input = large_buffer();
+    let mut out = large_buffer();
     // one place more than a store has, for `set_store_length`
     let mut store = [0u16; 2049];
     let world = world::fresh();
-    let m = read_all(ready(world, LENT, 0), &mut input, &mut store, &mut out);
-    finish(m, &mut store, &mut out);
+    let m = read_all(
+        &rt,
+        &mut reader,
+        ready(world, LENT, 0),
+        &mut input,
+        &mut store,
+        &mut out,
+    )?;
+    finish(&rt, m, &mut store, &mut out)
 }

@@ -18,7 +18,7 @@ const IN_COMMENT: u8 = 4;
 const BAD: u8 = 5;
 
 // What is read of a line: its word, and its numbers with the one being read as the last.
-#[derive(Drop)]
+#[derive(Clone, Copy)]
 pub struct Scan {
     pub mode: u8,
     pub length: usize,
