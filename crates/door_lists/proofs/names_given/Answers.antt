@@ -19,7 +19,7 @@ unfolding eui_list
 loop-i-init c =
     let row = c.args.numbers.now in
     let e = c.places_filled-n.ensures in
-    (search rules, rw e (filled-few (length row)).0, rw e (filled-few (length row)).1, ap (λ (x : Eui64List). x.addresses) c.new.ensures)
+    (search rules, rw e (filled-few (length row)).0, rw e (filled-few (length row)).1, ap (λ (x : Eui64List). x.addresses) c.new-l.ensures)
 
 pub loop-i-preserved : goal.loop-i-preserved
 loop-i-preserved c =

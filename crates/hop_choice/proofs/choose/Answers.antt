@@ -25,4 +25,4 @@ returns c =
     let a = c.args in
     let routes = route.rows_of (route.in_columns a.route_keys.now a.route_words.now a.route_usage.now a.routes) in
     let records = record_of.in_columns a.record_keys.now a.record_lengths.now a.records in
-    λ t f. steps.by_tables routes records (neighbor.rows_of (lent_words a.nwks.now a.links.now a.neighbors t)) a.destination a.policy a.relays a.suppressed a.kind _ c.in-Route.is c.in_default-directive.in_default-directive-own.keys2 (sym (c.any_fitting.ensures t f) ∙ c.if-any_fitting.false) _ c.by_tables.ensures
+    λ t f. steps.by-tables routes records (neighbor.rows_of (lent_words a.nwks.now a.links.now a.neighbors t)) a.destination a.policy a.relays a.suppressed a.kind _ c.in-Route.is c.in_default-directive.in_default-directive-own.keys2 (sym (c.any_fitting.ensures t f) ∙ c.if-any_fitting.false) _ c.by_tables.ensures

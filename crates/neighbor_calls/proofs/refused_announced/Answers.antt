@@ -3,4 +3,4 @@
 use Rattle.neighbor_calls.proofs.refused_announced.Goals as goal
 
 pub returns : goal.returns
-returns c = rw (c.new-removed.ensures, c.new.ensures)
+returns c = rw (c.new-removed.ensures, c.new-claimed.ensures)

@@ -1,6 +1,5 @@
 -- What is collected, with what the rows to come still give, are the addresses of all that fit. The measure is the places left.
 use Prim.Native.Nat.{◌-◌}
-use mathlib.Core.Logic.{⊎_elim}
 use mathlib.Core.Path.{◌≡◌, refl, sym, ◌∙◌}
 use Rattle.neighbor_table.specs.declared.NeighborEntry.{NeighborEntry}
 use Rattle.neighbor_columns.specs.Codec.{neighbor_from}
@@ -11,6 +10,7 @@ use Rattle.neighbor_queries_lent.proofs.Loops.{in_row, collected-none, collected
 use borrow.Author.Rules.{rules}
 use native.Mathlib.Omega.{arith}
 use Rattle.neighbor_queries_lent.proofs.children_fitting.Goals as goal
+use Rattle.neighbor_queries_lent.proofs.children_fitting.Goals.{then-fits_word, else-fits_word}
 
 pub loop-i-init : goal.loop-i-init
 loop-i-init c =
@@ -53,14 +53,8 @@ loop-i-preserved c =
     let on = seen c.args.keys.now c.args.nwks.now c.args.links.now c.args.count in
     let fit = fits c.args.filter in (
       search rules,
-      ⊎_elim
-          (λ w. omega (arith, w.4, v.invariant.1))
-          (λ w. omega (arith, w.2, v.invariant.1))
-          c.if-fits_word.branch,
-      λ t f. ⊎_elim
-          (λ w. collected-taken no_child child_of fit (on t) f v.i (search rules) v.children v.n (v.invariant.2 t f) c.if-fits_word.children c.if-fits_word.n (sym (in_row (on t) v.i (λ (e : NeighborEntry). c.fits_word.result ≡ fit e) c.fits_word.ensures) ∙ w.0.taken) w.3 w.4)
-          (λ w. collected-passed no_child child_of fit (on t) f v.i (search rules) v.children v.n (v.invariant.2 t f) c.if-fits_word.children c.if-fits_word.n (sym (in_row (on t) v.i (λ (e : NeighborEntry). c.fits_word.result ≡ fit e) c.fits_word.ensures) ∙ w.0.left) w.1 w.2)
-          c.if-fits_word.branch,
+      elim c.if-fits_word.branch [ then-fits_word w ↦ omega (arith, w.n-is, v.invariant.1) | else-fits_word w ↦ omega (arith, w.n-is, v.invariant.1) ],
+      λ t f. elim c.if-fits_word.branch [ then-fits_word w ↦ collected-taken no_child child_of fit (on t) f v.i (search rules) v.children v.n (v.invariant.2 t f) c.if-fits_word.children c.if-fits_word.n (sym (in_row (on t) v.i (λ (e : NeighborEntry). c.fits_word.result ≡ fit e) c.fits_word.ensures) ∙ w.if-fits_word.true) w.children-is w.n-is | else-fits_word w ↦ collected-passed no_child child_of fit (on t) f v.i (search rules) v.children v.n (v.invariant.2 t f) c.if-fits_word.children c.if-fits_word.n (sym (in_row (on t) v.i (λ (e : NeighborEntry). c.fits_word.result ≡ fit e) c.fits_word.ensures) ∙ w.if-fits_word.false) w.children-is w.n-is ],
     )
 
 pub returns : goal.returns

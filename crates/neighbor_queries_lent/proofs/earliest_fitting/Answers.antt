@@ -1,6 +1,5 @@
 -- The earliest of the deadlines passed, with the earliest of those to come, is the earliest of all. The measure is the places left.
 use Prim.Native.Nat.{◌-◌}
-use mathlib.Core.Logic.{⊎_elim}
 use mathlib.Core.Path.{◌≡◌, refl, sym, ◌∙◌}
 use Rattle.neighbor_table.specs.declared.NeighborEntry.{NeighborEntry}
 use Rattle.neighbor_columns.specs.Codec.{neighbor_from}
@@ -10,6 +9,7 @@ use Rattle.neighbor_queries_lent.proofs.Loops.{in_row, earliest-taken, earliest-
 use borrow.Author.Rules.{rules}
 use native.Mathlib.Omega.{arith}
 use Rattle.neighbor_queries_lent.proofs.earliest_fitting.Goals as goal
+use Rattle.neighbor_queries_lent.proofs.earliest_fitting.Goals.{then-fits_word, else-fits_word}
 
 pub loop-i-init : goal.loop-i-init
 loop-i-init c = (omega arith, λ t f. refl)
@@ -36,10 +36,7 @@ loop-i-preserved c =
     let on = lent_deadlines c.args.nwks.now c.args.links.now c.args.deadlines.now c.args.count in
     let fit = fits c.args.filter in (
       search rules,
-      λ t f. ⊎_elim
-          (λ w. earliest-taken (on t) f fit v.i (search rules) v.first c.if-fits_word.first (v.invariant.1 t f) (sym (in_row (on t) v.i (λ (e : NeighborEntry). c.fits_word.result ≡ fit e) c.fits_word.ensures) ∙ w.0.taken) (w.3 ∙ w.2.ensures))
-          (λ w. earliest-passed (on t) f fit v.i (search rules) v.first c.if-fits_word.first (v.invariant.1 t f) (sym (in_row (on t) v.i (λ (e : NeighborEntry). c.fits_word.result ≡ fit e) c.fits_word.ensures) ∙ w.0.left) w.1)
-          c.if-fits_word.branch,
+      λ t f. elim c.if-fits_word.branch [ then-fits_word w ↦ earliest-taken (on t) f fit v.i (search rules) v.first c.if-fits_word.first (v.invariant.1 t f) (sym (in_row (on t) v.i (λ (e : NeighborEntry). c.fits_word.result ≡ fit e) c.fits_word.ensures) ∙ w.if-fits_word.true) (w.first-is ∙ w.earlier.ensures) | else-fits_word w ↦ earliest-passed (on t) f fit v.i (search rules) v.first c.if-fits_word.first (v.invariant.1 t f) (sym (in_row (on t) v.i (λ (e : NeighborEntry). c.fits_word.result ≡ fit e) c.fits_word.ensures) ∙ w.if-fits_word.false) w.first-is ],
     )
 
 pub returns : goal.returns

@@ -1,6 +1,5 @@
 -- What is collected, with what the rows to come still give, are the addresses of all that fit. The measure is the places left.
 use Prim.Native.Nat.{◌-◌}
-use mathlib.Core.Logic.{⊎_elim}
 use mathlib.Core.Path.{◌≡◌, refl, sym, ◌∙◌}
 use Rattle.neighbor_table.specs.declared.NeighborEntry.{NeighborEntry}
 use Rattle.neighbor_columns.specs.Codec.{neighbor_from}
@@ -12,6 +11,7 @@ use Rattle.neighbor_queries_lent.proofs.Loops.{in-time, collected-none, collecte
 use borrow.Author.Rules.{rules}
 use native.Mathlib.Omega.{arith}
 use Rattle.neighbor_queries_lent.proofs.timed_out_children.Goals as goal
+use Rattle.neighbor_queries_lent.proofs.timed_out_children.Goals.{then-is_timed_out, else-is_timed_out}
 
 pub loop-i-init : goal.loop-i-init
 loop-i-init c =
@@ -51,14 +51,8 @@ loop-i-preserved c =
     let on = lent_expiry c.args.keys.now c.args.nwks.now c.args.links.now c.args.deadlines.now c.args.count in
     let fit = fits (TimedOut c.args.at) in (
       search rules,
-      ⊎_elim
-          (λ w. omega (arith, w.4, v.invariant.1))
-          (λ w. omega (arith, w.2, v.invariant.1))
-          c.if-is_timed_out.branch,
-      λ t f. ⊎_elim
-          (λ w. collected-taken no_child child_of fit (on t) f v.i (search rules) v.children v.n (v.invariant.2 t f) c.if-is_timed_out.children c.if-is_timed_out.n (sym (in-time (on t) v.i (λ (e : NeighborEntry). c.is_timed_out.result ≡ fit e) c.is_timed_out.ensures) ∙ w.0.taken) w.3 w.4)
-          (λ w. collected-passed no_child child_of fit (on t) f v.i (search rules) v.children v.n (v.invariant.2 t f) c.if-is_timed_out.children c.if-is_timed_out.n (sym (in-time (on t) v.i (λ (e : NeighborEntry). c.is_timed_out.result ≡ fit e) c.is_timed_out.ensures) ∙ w.0.left) w.1 w.2)
-          c.if-is_timed_out.branch,
+      elim c.if-is_timed_out.branch [ then-is_timed_out w ↦ omega (arith, w.n-is, v.invariant.1) | else-is_timed_out w ↦ omega (arith, w.n-is, v.invariant.1) ],
+      λ t f. elim c.if-is_timed_out.branch [ then-is_timed_out w ↦ collected-taken no_child child_of fit (on t) f v.i (search rules) v.children v.n (v.invariant.2 t f) c.if-is_timed_out.children c.if-is_timed_out.n (sym (in-time (on t) v.i (λ (e : NeighborEntry). c.is_timed_out.result ≡ fit e) c.is_timed_out.ensures) ∙ w.if-is_timed_out.true) w.children-is w.n-is | else-is_timed_out w ↦ collected-passed no_child child_of fit (on t) f v.i (search rules) v.children v.n (v.invariant.2 t f) c.if-is_timed_out.children c.if-is_timed_out.n (sym (in-time (on t) v.i (λ (e : NeighborEntry). c.is_timed_out.result ≡ fit e) c.is_timed_out.ensures) ∙ w.if-is_timed_out.false) w.children-is w.n-is ],
     )
 
 pub returns : goal.returns

@@ -9,7 +9,7 @@ pub returns-then-announced-gt64 : goal.returns-then-announced-gt64
 returns-then-announced-gt64 c =
     let a = c.args in
     let t = in_columns a.keys.now a.nwks.now a.links.now a.counts.now a.deadlines.now a.periods.now a.heard.now a.added.now a.beacons.now a.bytes.now a.count in
-    let x = too_long true a.announced (rows_of t) t _ _ c.if-announced-gt64.true (record { neighbors = record { formed = c.requires; rows = refl }; claims = c.new.ensures; removals = c.new-removed.ensures }) in
+    let x = too_long true a.announced (rows_of t) t _ _ c.if-announced-gt64.true (record { neighbors = record { formed = c.requires; rows = refl }; claims = c.new-claimed.ensures; removals = c.new-removed.ensures }) in
     (x.0, x.1.claims, x.1.removals, x.1.neighbors)
 
 pub settle-s-requires : goal.settle-s-requires

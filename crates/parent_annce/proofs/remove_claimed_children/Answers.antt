@@ -11,7 +11,7 @@ pub returns-then-claimed-gt64 : goal.returns-then-claimed-gt64
 returns-then-claimed-gt64 c =
     let a = c.args in
     let t = in_columns a.keys.now a.nwks.now a.links.now a.counts.now a.deadlines.now a.periods.now a.heard.now a.added.now a.beacons.now a.bytes.now a.count in
-    let x = too_long false a.claimed (rows_of t) t (eui_list []) _ c.if-claimed-gt64.true (record { neighbors = record { formed = c.requires; rows = refl }; claims = refl; removals = c.new.ensures }) in
+    let x = too_long false a.claimed (rows_of t) t (eui_list []) _ c.if-claimed-gt64.true (record { neighbors = record { formed = c.requires; rows = refl }; claims = refl; removals = c.new-removed.ensures }) in
     (x.0, x.1.removals, x.1.neighbors)
 
 pub settle-s-requires : goal.settle-s-requires

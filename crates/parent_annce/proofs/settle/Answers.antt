@@ -20,7 +20,7 @@ loop-i-init c =
     let a = c.args in
     let t = in_columns a.keys.now a.nwks.now a.links.now a.counts.now a.deadlines.now a.periods.now a.heard.now a.added.now a.beacons.now a.bytes.now a.count in
     let list = take a.list.count a.list.addresses in
-    record { now = start (rows_of t); reaches = record { neighbors = record { formed = c.requires.0; rows = refl }; claims = c.new.ensures; removals = c.new-removed.ensures }; few = record { claims = omega arith; removals = omega arith }; rest = refl }
+    record { now = start (rows_of t); reaches = record { neighbors = record { formed = c.requires.0; rows = refl }; claims = c.new-claimed.ensures; removals = c.new-removed.ensures }; few = record { claims = omega arith; removals = omega arith }; rest = refl }
 
 pub offset_bounds-list-i : goal.offset_bounds-list-i
 offset_bounds-list-i c = omega (arith, c.requires.1, c.loop-i-test.true)

@@ -3,7 +3,6 @@
 use Prim.Native.Nat.{◌-◌, min}
 use native.Mathlib.Omega.{arith}
 use mathlib.Core.List.{[]}
-use mathlib.Core.Logic.{⊎_elim}
 use mathlib.Core.Path.{◌≡◌, refl}
 use lib.ListN.{get_or}
 use Rattle.flat_map.proofs.Rows.{getD-blank}
@@ -12,6 +11,7 @@ use Rattle.relay_store.proofs.Agree.{agrees-told, gathered_none, gathered-more, 
 use Rattle.relay_store.proofs.Rows.{part-row, part_of}
 use borrow.Author.Rules.{rules}
 use Rattle.relay_store.proofs.agrees.Goals as goal
+use Rattle.relay_store.proofs.agrees.Goals.{then-n-gt32, else-n-gt32}
 
 pub returns-then-store-ne2048 : goal.returns-then-store-ne2048
 returns-then-store-ne2048 c = tells-one (not_so (λ w. c.if-store-ne2048.true w.places)) (agrees-told _ _)
@@ -26,22 +26,22 @@ pub overflow_cast-n : goal.overflow_cast-n
 overflow_cast-n c = omega (arith, c.shared_slice_known-in-loop-i-1.given c.loop-i.i)
 
 pub overflow_sub-from : goal.overflow_sub-from
-overflow_sub-from c = ⊎_elim (λ u. omega arith) (λ u. omega arith) c.if-n-gt32.branch
+overflow_sub-from c = elim c.if-n-gt32.branch [ then-n-gt32 u ↦ omega arith | else-n-gt32 u ↦ omega arith ]
 
 pub overflow_add-from : goal.overflow_add-from
-overflow_add-from c = ⊎_elim (λ u. omega arith) (λ u. omega arith) c.if-n-gt32.branch
+overflow_add-from c = elim c.if-n-gt32.branch [ then-n-gt32 u ↦ omega arith | else-n-gt32 u ↦ omega arith ]
 
 pub offset_bounds-masks-from : goal.offset_bounds-masks-from
-offset_bounds-masks-from c = ⊎_elim (λ u. omega arith) (λ u. omega arith) c.if-n-gt32.branch
+offset_bounds-masks-from c = elim c.if-n-gt32.branch [ then-n-gt32 u ↦ omega arith | else-n-gt32 u ↦ omega arith ]
 
 pub slice_bounds-mark-count-in-loop-i : goal.slice_bounds-mark-count-in-loop-i
-slice_bounds-mark-count-in-loop-i c = ⊎_elim (λ u. omega arith) (λ u. omega arith) c.if-n-gt32.branch
+slice_bounds-mark-count-in-loop-i c = elim c.if-n-gt32.branch [ then-n-gt32 u ↦ omega arith | else-n-gt32 u ↦ omega arith ]
 
 pub slice_bounds-mark-start-in-loop-i : goal.slice_bounds-mark-start-in-loop-i
-slice_bounds-mark-start-in-loop-i c = ⊎_elim (λ u. omega arith) (λ u. omega arith) c.if-n-gt32.branch
+slice_bounds-mark-start-in-loop-i c = elim c.if-n-gt32.branch [ then-n-gt32 u ↦ omega arith | else-n-gt32 u ↦ omega arith ]
 
 pub slice_bounds-mark-end-in-loop-i-2 : goal.slice_bounds-mark-end-in-loop-i-2
-slice_bounds-mark-end-in-loop-i-2 c = ⊎_elim (λ u. omega arith) (λ u. omega arith) c.if-n-gt32.branch
+slice_bounds-mark-end-in-loop-i-2 c = elim c.if-n-gt32.branch [ then-n-gt32 u ↦ omega arith | else-n-gt32 u ↦ omega arith ]
 
 pub loop-i-preserved : goal.loop-i-preserved
 loop-i-preserved c =
@@ -49,7 +49,7 @@ loop-i-preserved c =
     let lengths = c.args.lengths.now in
     let store = c.args.store.now in
     let n = c.if-n-gt32.n in
-    let m : n ≡ min (get_or lengths v.i 0) 32 = ⊎_elim (λ u. omega arith) (λ u. omega arith) c.if-n-gt32.branch in
+    let m : n ≡ min (get_or lengths v.i 0) 32 = elim c.if-n-gt32.branch [ then-n-gt32 u ↦ omega arith | else-n-gt32 u ↦ omega arith ] in
     let g = rw (part-row v.i store, part_of (32 - n) _) at c.mark.ensures in
     (v.invariant.0, gathered-more lengths store _ v.invariant.0 (λ k. omega (arith, c.shared_slice_known-2-1.given k)) v.i n m _ _ (omega arith) v.invariant.1 g)
 

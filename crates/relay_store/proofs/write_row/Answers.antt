@@ -2,7 +2,6 @@
 -- The measure is the numbers left.
 use Prim.Native.Nat.{◌-◌}
 use native.Mathlib.Omega.{arith}
-use mathlib.Core.Logic.{⊎_elim}
 use mathlib.Core.Path.{◌≡◌, refl, sym}
 use lib.ListN.{length, drop}
 use Rattle.flat_map.proofs.Shift.{unmapped}
@@ -11,6 +10,7 @@ use Rattle.relay_store.proofs.Cells.{same_whole, cell_in, cell-after, cell-writt
 use Rattle.relay_store.proofs.Shifts.{wide_of}
 use borrow.Author.Rules.{rules}
 use Rattle.relay_store.proofs.write_row.Goals as goal
+use Rattle.relay_store.proofs.write_row.Goals.{then-i-n, else-i-n}
 
 pub loop-i-init : goal.loop-i-init
 loop-i-init c = (search rules, search rules, refl)
@@ -23,10 +23,7 @@ loop-i-preserved c =
     let long : length l.addresses ≡ 32 = search (rules, unmapped) in
     let w = wide_of (drop from (relays_of l)) in
     let p =
-    ⊎_elim
-    (λ u. cell-written (row_of (drop from (relays_of l))) v.row c.if-i-n.row v.i _ w u.2 (sym (cell_in l from v.i long c.requires.0 c.requires.1 u.0.taken)) (omega arith) v.invariant.1 v.invariant.2)
-    (λ u. cell-written (row_of (drop from (relays_of l))) v.row c.if-i-n.row v.i 0 w u.1 (sym (cell-after l from v.i long c.requires.0 c.requires.1 u.0.left)) (omega arith) v.invariant.1 v.invariant.2)
-    c.if-i-n.branch in
+    elim c.if-i-n.branch [ then-i-n u ↦ cell-written (row_of (drop from (relays_of l))) v.row c.if-i-n.row v.i _ w u.row-is (sym (cell_in l from v.i long c.requires.0 c.requires.1 u.if-i-n.true)) (omega arith) v.invariant.1 v.invariant.2 | else-i-n u ↦ cell-written (row_of (drop from (relays_of l))) v.row c.if-i-n.row v.i 0 w u.row-is (sym (cell-after l from v.i long c.requires.0 c.requires.1 u.if-i-n.false)) (omega arith) v.invariant.1 v.invariant.2 ] in
     (search rules, p.0, p.1)
 
 pub returns : goal.returns

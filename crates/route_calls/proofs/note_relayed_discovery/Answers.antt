@@ -26,4 +26,4 @@ returns c =
     let a = c.args in
     let t = in_columns a.route_keys.now a.route_words.now a.route_usage.now a.routes in
     let r = c.store in
-    subst (λ (e : RouteEntry). Leaves (in_columns r.new.0 r.new.1.0 r.new.1.1.0 r.result.routes) r.result.answer (step_to (rows_of t) (put route_key e (rows_of t)))) (c.sought.ensures ∙ ap sought c.route_or-e.ensures) r.ensures
+    subst (λ (e : RouteEntry). Leaves (in_columns r.new.route_keys r.new.route_words r.new.route_usage r.result.routes) r.result.answer (step_to (rows_of t) (put route_key e (rows_of t)))) (c.sought.ensures ∙ ap sought c.route_or-e.ensures) r.ensures

@@ -42,7 +42,7 @@ pub entry_at-e-requires : goal.entry_at-e-requires
 entry_at-e-requires c =
     let a = c.args in
     let t = in_columns a.route_keys.now a.route_words.now a.route_usage.now a.routes a.discovery_keys.now a.discovery_words.now a.discovery_ends.now a.discoveries in
-    routes.in_columns t.routes c.requires.routes _ (routes.place-within t.routes c.requires.routes _ _ (route-at (goal.at.entry_at-e-requires c).In-Found-place_of))
+    routes.in-columns t.routes c.requires.routes _ (routes.place-within t.routes c.requires.routes _ _ (route-at (goal.at.entry_at-e-requires c).In-Found-place_of))
 
 pub reply_ours-requires : goal.reply_ours-requires
 reply_ours-requires c =

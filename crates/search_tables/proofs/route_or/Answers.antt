@@ -13,7 +13,7 @@ pub entry_at-requires : goal.entry_at-requires
 entry_at-requires c =
     let a = c.args in
     let t = in_columns a.keys.now a.words.now a.usage.now a.count in
-    routes.in_columns t c.requires.0 _ (routes.place-within t c.requires.0 _ _ (sym c.in-Found.is ∙ c.requires.1))
+    routes.in-columns t c.requires.0 _ (routes.place-within t c.requires.0 _ _ (sym c.in-Found.is ∙ c.requires.1))
 
 pub returns-in-Found : goal.returns-in-Found
 returns-in-Found c =

@@ -3,4 +3,4 @@
 use Rattle.neighbors.proofs.questions.refused_nwks.Goals as goal
 
 pub returns : goal.returns
-returns c = rw c.new.ensures
+returns c = rw c.new-list.ensures
