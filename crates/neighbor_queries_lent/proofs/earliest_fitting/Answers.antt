@@ -36,7 +36,7 @@ loop-i-preserved c =
     let on = lent_deadlines c.args.nwks.now c.args.links.now c.args.deadlines.now c.args.count in
     let fit = fits c.args.filter in (
       search rules,
-      λ t f. elim c.if-fits_word.branch [ then-fits_word w ↦ earliest-taken (on t) f fit v.i (search rules) v.first c.if-fits_word.first (v.invariant.1 t f) (sym (in_row (on t) v.i (λ (e : NeighborEntry). c.fits_word.result ≡ fit e) c.fits_word.ensures) ∙ w.if-fits_word.true) (w.first-is ∙ w.earlier.ensures) | else-fits_word w ↦ earliest-passed (on t) f fit v.i (search rules) v.first c.if-fits_word.first (v.invariant.1 t f) (sym (in_row (on t) v.i (λ (e : NeighborEntry). c.fits_word.result ≡ fit e) c.fits_word.ensures) ∙ w.if-fits_word.false) w.first-is ],
+      λ t f. elim c.if-fits_word.branch [ then-fits_word w ↦ earliest-taken (on t) f fit v.i (search rules) v.first c.if-fits_word.first (v.invariant.1 t f) (sym (in_row (on t) v.i (λ (e : NeighborEntry). c.fits_word.result ≡ fit e) c.fits_word.ensures) ∙ w.if-fits_word.true) (w.first-is ∙ w.earlier-first.ensures) | else-fits_word w ↦ earliest-passed (on t) f fit v.i (search rules) v.first c.if-fits_word.first (v.invariant.1 t f) (sym (in_row (on t) v.i (λ (e : NeighborEntry). c.fits_word.result ≡ fit e) c.fits_word.ensures) ∙ w.if-fits_word.false) w.first-is ],
     )
 
 pub returns : goal.returns

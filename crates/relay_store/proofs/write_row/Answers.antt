@@ -22,9 +22,10 @@ loop-i-preserved c =
     let from = c.args.from in
     let long : length l.addresses ≡ 32 = search (rules, unmapped) in
     let w = wide_of (drop from (relays_of l)) in
-    let p =
-    elim c.if-i-n.branch [ then-i-n u ↦ cell-written (row_of (drop from (relays_of l))) v.row c.if-i-n.row v.i _ w u.row-is (sym (cell_in l from v.i long c.requires.0 c.requires.1 u.if-i-n.true)) (omega arith) v.invariant.1 v.invariant.2 | else-i-n u ↦ cell-written (row_of (drop from (relays_of l))) v.row c.if-i-n.row v.i 0 w u.row-is (sym (cell-after l from v.i long c.requires.0 c.requires.1 u.if-i-n.false)) (omega arith) v.invariant.1 v.invariant.2 ] in
-    (search rules, p.0, p.1)
+    elim c.if-i-n.branch [
+      | then-i-n u ↦ let p = cell-written (row_of (drop from (relays_of l))) v.row c.if-i-n.row v.i _ w u.row-is (sym (cell_in l from v.i long c.requires.0 c.requires.1 u.if-i-n.true)) (omega arith) v.invariant.1 v.invariant.2 in (search rules, p.0, p.1)
+      | else-i-n u ↦ let p = cell-written (row_of (drop from (relays_of l))) v.row c.if-i-n.row v.i 0 w u.row-is (sym (cell-after l from v.i long c.requires.0 c.requires.1 u.if-i-n.false)) (omega arith) v.invariant.1 v.invariant.2 in (search rules, p.0, p.1)
+    ]
 
 pub returns : goal.returns
 returns c =

@@ -21,9 +21,10 @@ loop-i-preserved c =
     let n = c.args.count in
     let many = length-take-le n from c.requires.1 in
     let w = length-pad 32 0 (take n from) in
-    let p =
-    elim c.if-i-count.branch [ then-i-count u ↦ cell-written (pad 32 0 (take n from)) v.relays c.if-i-count.relays v.i _ w u.relays-is (sym (getD-pad 32 v.i 0 (take n from) (omega (arith, many, u.if-i-count.true)) (omega (arith, many)) ∙ get_or-take n from v.i 0 u.if-i-count.true)) (omega arith) v.invariant.1 v.invariant.2 | else-i-count u ↦ cell-written (pad 32 0 (take n from)) v.relays c.if-i-count.relays v.i 0 w u.relays-is (sym (getD-blank 32 v.i 0 (take n from) (omega (arith, many, u.if-i-count.false)))) (omega arith) v.invariant.1 v.invariant.2 ] in
-    (search rules, p.0, p.1)
+    elim c.if-i-count.branch [
+      | then-i-count u ↦ let p = cell-written (pad 32 0 (take n from)) v.relays c.if-i-count.relays v.i _ w u.relays-is (sym (getD-pad 32 v.i 0 (take n from) (omega (arith, many, u.if-i-count.true)) (omega (arith, many)) ∙ get_or-take n from v.i 0 u.if-i-count.true)) (omega arith) v.invariant.1 v.invariant.2 in (search rules, p.0, p.1)
+      | else-i-count u ↦ let p = cell-written (pad 32 0 (take n from)) v.relays c.if-i-count.relays v.i 0 w u.relays-is (sym (getD-blank 32 v.i 0 (take n from) (omega (arith, many, u.if-i-count.false)))) (omega arith) v.invariant.1 v.invariant.2 in (search rules, p.0, p.1)
+    ]
 
 pub returns : goal.returns
 returns c =
