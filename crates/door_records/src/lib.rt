@@ -1,7 +1,7 @@
-// The calls on route records at the door for C: the relay store is lent beside the columns.
+// The calls on route records at the door for C, which `door_records_c` exports: the relay store is lent beside the columns.
 #![tactic(auto)]
 
-mod removal;
+pub mod removal;
 
 ghost use Rattle.std.specs.Prelude.{◌≡◌, ◌≤◌, length};
 ghost use Rattle.standard.specs.Route.{nwk};
@@ -42,8 +42,7 @@ fn say_record(answer: RecordAnswer, changed: &mut u8) -> u8
 }
 
 // A route record of a source: each relay gets the relays after it, and then the source gets all of them.
-#[unsafe(no_mangle)]
-pub extern "C" fn warpteasel_raw_store_route_record(
+pub fn warpteasel_raw_store_route_record(
     route_keys: &[u16],
     route_words: &[u64],
     route_usage: &[u32],

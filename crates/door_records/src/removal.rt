@@ -1,4 +1,4 @@
-// A route record removed, at the door for C.
+// A route record removed, at the door for C; `door_records_c` exports it.
 ghost use Rattle.standard.specs.Route.{nwk};
 ghost use Rattle.door.specs.Lent.{lent};
 ghost use Rattle.door_records.specs.Records.{RemovedMade};
@@ -6,8 +6,7 @@ ghost use Rattle.door_records.specs.Records.{RemovedMade};
 use types::Nwk;
 
 // The record of a destination is removed; whether there was one.
-#[unsafe(no_mangle)]
-pub extern "C" fn warpteasel_raw_remove_route_record(
+pub fn warpteasel_raw_remove_route_record(
     route_keys: &[u16],
     route_words: &[u64],
     route_usage: &[u32],
