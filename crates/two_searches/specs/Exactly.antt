@@ -4,7 +4,7 @@
 --   route is not Active at the start, the first reply always establishes and the rule counts from its cost."
 -- Assumes nothing.
 use Rattle.std.specs.Prelude.{ℕ, ◌<◌, ◌≡◌, ◌↔◌, Bool, true, false, List, length, get_or}
-use Rattle.std.proofs.Common.{arith}
+use Rattle.std.proofs.Math.Nat.{lt-suc_self, zero-lt-suc}
 use Rattle.standard.specs.declared.RouteEntry.{RouteEntry}
 use Rattle.standard.specs.declared.DiscoveryEntry.{DiscoveryEntry}
 use Rattle.standard.specs.declared.RouteReplyDisposition.{RouteReplyDisposition}
@@ -17,7 +17,7 @@ use Rattle.two_searches.specs.Conditions.{RouteTo}
 
 -- the reply at place i of a stream, counted from 0
 abbrev pub reply_at : List Heard → ℕ → Heard
-reply_at xs i = get_or xs i (record { sender = unknown_hop; cost = 0; short = omega arith; byte = omega arith })
+reply_at xs i = get_or xs i (record { sender = unknown_hop; cost = 0; short = lt-suc_self 65535; byte = zero-lt-suc 255 })
 
 -- an answer that does and reports nothing
 abbrev pub drop_answer : Answer

@@ -2,4 +2,4 @@
 use Rattle.door.proofs.columns_formed.Goals as goal
 
 pub returns : goal.returns
-returns c = rw (c.well_formed-discoveries_fine.ensures, c.well_formed-routes_fine.ensures, c.well_formed.ensures)
+returns c = rw (c.well_formed-records_fine.ensures, c.well_formed-discoveries_fine.ensures, c.well_formed-routes_fine.ensures)

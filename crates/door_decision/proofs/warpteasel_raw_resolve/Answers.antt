@@ -12,12 +12,12 @@ use Rattle.door_decision.proofs.warpteasel_raw_resolve.Goals.{Start, Else-not-is
 
 abbrev places : Start → ResolvePlaces
 places s =
-    let a = c.args in
+    let a = s.args in
     resolve_at a.discover_route.now a.source_route.now a.has_source_route.now a.relay_index.now a.relay_count.now a.relays.now a.decision.now a.next_hop.now
 
-values : (c : Else-not-is_call) → Resolvable c.args.is_concentrator c.args.force_route_discovery c.args.mode (places c.Start)
+values : (c : Else-not-is_call) → Resolvable c.args.is_concentrator c.args.force_route_discovery c.args.mode (resolve_at c.args.discover_route.now c.args.source_route.now c.args.has_source_route.now c.args.relay_index.now c.args.relay_count.now c.args.relays.now c.args.decision.now c.args.next_hop.now)
 values c =
-    (resolvable c.args.is_concentrator c.args.force_route_discovery c.args.mode (places c.Start) c.is_call.ensures).fact (not-false _ c.if-not-is_call.false-raw)
+    (resolvable c.args.is_concentrator c.args.force_route_discovery c.args.mode (resolve_at c.args.discover_route.now c.args.source_route.now c.args.has_source_route.now c.args.relay_index.now c.args.relay_count.now c.args.relays.now c.args.decision.now c.args.next_hop.now) c.is_call.ensures).fact (not-false _ c.if-not-is_call.false-raw)
 
 pub returns-then-not-is_call : goal.returns-then-not-is_call
 returns-then-not-is_call c =

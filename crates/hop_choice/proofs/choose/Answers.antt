@@ -2,6 +2,7 @@
 -- Any other goes to the tables.
 -- Assumes nothing.
 use mathlib.Core.Path.{sym, ◌∙◌}
+use borrow.Enum.Refused.{opened}
 use Rattle.record_table.specs.Table as record_of
 use Rattle.route_table.specs.Table as route
 use Rattle.neighbor_columns.specs.Table as neighbor
@@ -18,11 +19,11 @@ returns-in-Force c =
 
 pub returns-then-any_fitting : goal.returns-then-any_fitting
 returns-then-any_fitting c =
-    λ t f. steps.to-child _ _ _ _ _ _ _ _ _ c.in-Route.is c.in_default-directive.in_default-directive-own.keys2 (sym (c.any_fitting.ensures t f) ∙ c.if-any_fitting.true)
+    λ t f. steps.to-child _ _ _ _ _ _ _ _ _ c.in-Route.is (opened c.in_default-directive.in_default-directive-own.keys2) (sym (c.any_fitting.ensures t f) ∙ c.if-any_fitting.true)
 
 pub returns : goal.returns
 returns c =
     let a = c.args in
     let routes = route.rows_of (route.in_columns a.route_keys.now a.route_words.now a.route_usage.now a.routes) in
     let records = record_of.in_columns a.record_keys.now a.record_lengths.now a.records in
-    λ t f. steps.by-tables routes records (neighbor.rows_of (lent_words a.nwks.now a.links.now a.neighbors t)) a.destination a.policy a.relays a.suppressed a.kind _ c.in-Route.is c.in_default-directive.in_default-directive-own.keys2 (sym (c.any_fitting.ensures t f) ∙ c.if-any_fitting.false) _ c.by_tables.ensures
+    λ t f. steps.by-tables routes records (neighbor.rows_of (lent_words a.nwks.now a.links.now a.neighbors t)) a.destination a.policy a.relays a.suppressed a.kind _ c.in-Route.is (opened c.in_default-directive.in_default-directive-own.keys2) (sym (c.any_fitting.ensures t f) ∙ c.if-any_fitting.false) _ c.by_tables.ensures

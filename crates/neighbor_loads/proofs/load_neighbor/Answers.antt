@@ -20,7 +20,7 @@ formed : (c : Else-not-neighbors_formed) → Formed64 (table_in c.args.s)
 formed c = (formed-told (table_in c.args.s)).fact (good c)
 
 room : (c : After-has_room) → leb (count_with neighbor_key (neighbor_key c.args.e) (rows c.args.s)) 64 ≡ c.has_room.result
-room c = room-told (table_in c.args.s) (formed c.Else-not-neighbors_formed) (neighbor_key c.args.e) c.place_of-place.result c.place_of-place.ensures ∙ sym c.has_room.ensures
+room c = room-told (table_in c.args.s) ((formed-told (table_in c.args.s)).fact (sym c.neighbors_formed.ensures ∙ not-false _ c.if-not-neighbors_formed.false-raw)) (neighbor_key c.args.e) c.place_of-place.result c.place_of-place.ensures ∙ sym c.has_room.ensures
 
 pub returns-then-not-neighbors_formed : goal.returns-then-not-neighbors_formed
 unfolding neighbor_put

@@ -25,7 +25,7 @@ table-formed : (c : Else-not-formed) → Formed64 (waiting_in c.args.s)
 table-formed c = (formed-told (waiting_in c.args.s)).fact (good c)
 
 room : (c : After-has_room) → leb (count_with waiting_key (waiting_key c.args.e) (waits c.args.s)) 64 ≡ c.has_room.result
-room c = room-told (waiting_in c.args.s) (table-formed c.Else-not-formed) (waiting_key c.args.e) c.place_of-place.result c.place_of-place.ensures ∙ sym c.has_room.ensures
+room c = room-told (waiting_in c.args.s) ((formed-told (waiting_in c.args.s)).fact (sym c.formed.ensures ∙ not-false _ c.if-not-formed.false-raw)) (waiting_key c.args.e) c.place_of-place.result c.place_of-place.ensures ∙ sym c.has_room.ensures
 
 pub slice_bounds-formed-end : goal.slice_bounds-formed-end
 slice_bounds-formed-end c = sym (long (goal.at.slice_bounds-formed-end c).Start).0

@@ -2,4 +2,4 @@
 use Rattle.neighbors.proofs.columns_formed.Goals as goal
 
 pub returns : goal.returns
-returns c = rw (c.well_formed-known.ensures, c.well_formed.ensures)
+returns c = rw (c.well_formed-heard_of.ensures, c.well_formed-known.ensures)

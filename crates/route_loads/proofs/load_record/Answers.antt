@@ -31,12 +31,12 @@ fits : (c : Else-not-agrees) → agrees (record_table c.args.s) c.args.store.now
 fits c = sym c.agrees.ensures ∙ not-false _ c.if-not-agrees.false-raw
 
 together : (c : Else-not-agrees) → Together (record_table c.args.s) c.args.store.now
-together c = record { formed = formed c.Else-not-well_formed; agrees = (agrees-told _ _).fact (fits c) }
+together c = record { formed = (well-formed-told (record_table c.args.s)).fact (sym c.well_formed-2.ensures ∙ not-false _ c.if-not-well_formed.false-raw); agrees = (agrees-told _ _).fact (sym c.agrees.ensures ∙ not-false _ c.if-not-agrees.false-raw) }
 
 room : (c : After-has_room) → leb (length (records_after c.args.destination c.args.l c.args.s c.args.store.now)) 64 ≡ c.has_room.result
 room c =
     let a = c.args in
-    record-room (record_table a.s) a.store.now (together c.Else-not-agrees) (record_for a.destination (relays_of a.l)) c.place_of-place.result c.place_of-place.ensures
+    record-room (record_table a.s) a.store.now (record { formed = (well-formed-told (record_table c.args.s)).fact (sym c.well_formed-2.ensures ∙ not-false _ c.if-not-well_formed.false-raw); agrees = (agrees-told _ _).fact (sym c.agrees.ensures ∙ not-false _ c.if-not-agrees.false-raw) }) (record_for a.destination (relays_of a.l)) c.place_of-place.result c.place_of-place.ensures
     ∙ sym c.has_room.ensures
 
 pub slice_bounds-well_formed-end : goal.slice_bounds-well_formed-end

@@ -27,7 +27,7 @@ formed : (c : Else-not-well_formed) → WellFormed (route_table c.args.s)
 formed c = (well-formed-told (route_table c.args.s)).fact (good c)
 
 room : (c : After-has_room) → leb (count_with route_key (route_key c.args.e) (rows_of (route_table c.args.s))) 64 ≡ c.has_room.result
-room c = place-room (route_table c.args.s) (formed c.Else-not-well_formed) (route_key c.args.e) c.place_of-place.result c.place_of-place.ensures ∙ sym c.has_room.ensures
+room c = place-room (route_table c.args.s) ((well-formed-told (route_table c.args.s)).fact (sym c.well_formed-2.ensures ∙ not-false _ c.if-not-well_formed.false-raw)) (route_key c.args.e) c.place_of-place.result c.place_of-place.ensures ∙ sym c.has_room.ensures
 
 pub slice_bounds-well_formed-end : goal.slice_bounds-well_formed-end
 slice_bounds-well_formed-end c = sym (long (goal.at.slice_bounds-well_formed-end c).Start).0

@@ -20,9 +20,9 @@ abbrev held : Start → RecordTable
 held c = in_columns c.args.keys.now c.args.lengths.now c.args.count
 
 free : (c : Else-not-has_room) →
-    leb (length (record_stored c.args.source (relays_of c.args.relays) (records_of (held c.Start) c.args.store.now))) 64 ≡ true
+    leb (length (record_stored c.args.source (relays_of c.args.relays) (records_of (in_columns c.args.keys.now c.args.lengths.now c.args.count) c.args.store.now))) 64 ≡ true
 free c =
-    sym (c.has_room.ensures ∙ room-is (held c.Start) c.args.store.now c.requires.0 c.args.source (relays_of c.args.relays)) ∙ not-false _ c.if-not-has_room.false-raw
+    sym (c.has_room.ensures ∙ room-is (in_columns c.args.keys.now c.args.lengths.now c.args.count) c.args.store.now c.requires.0 c.args.source (relays_of c.args.relays)) ∙ not-false _ c.if-not-has_room.false-raw
 
 pub has_room-requires : goal.has_room-requires
 has_room-requires c = (c.requires.0.formed, c.requires.1)

@@ -10,7 +10,7 @@ pub loop-k-init : goal.loop-k-init
 loop-k-init c = (
   record {
     routes = (route-rows.well-formed-told _).fact (sym c.well_formed-2.ensures ∙ not-false _ c.if-not-well_formed.false-raw);
-    discoveries = (discovery-rows.well-formed-told _).fact (sym c.well_formed-2.ensures ∙ not-false _ c.if-not-well_formed-2.false-raw);
+    discoveries = (discovery-rows.well-formed-told _).fact (sym c.well_formed-3.ensures ∙ not-false _ c.if-not-well_formed-2.false-raw);
   },
   omega arith,
   omega arith,
