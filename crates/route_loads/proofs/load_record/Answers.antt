@@ -49,7 +49,7 @@ pub returns-then-not-well_formed : goal.returns-then-not-well_formed
 unfolding record_put record_put_store
 returns-then-not-well_formed c =
     let bad = sym c.well_formed-2.ensures ∙ not-true _ c.if-not-well_formed.true-raw in
-    (rw bad c.no_call.ensures, rw bad)
+    record { value = rw bad c.no_call.ensures; store_after = rw bad }
 
 pub slice_bounds-agrees-end : goal.slice_bounds-agrees-end
 slice_bounds-agrees-end c = sym (long (goal.at.slice_bounds-agrees-end c).Start).1
@@ -59,7 +59,7 @@ unfolding record_put record_put_store
 returns-then-not-agrees c =
     let p = good (goal.at.returns-then-not-agrees c).Else-not-well_formed in
     let bad = sym c.agrees.ensures ∙ not-true _ c.if-not-agrees.true-raw in
-    (rw (p, bad) c.no_call-then-not-agrees.ensures, rw (p, bad))
+    record { value = rw (p, bad) c.no_call-then-not-agrees.ensures; store_after = rw (p, bad) }
 
 pub slice_bounds-place_of-end : goal.slice_bounds-place_of-end
 slice_bounds-place_of-end c = sym (long (goal.at.slice_bounds-place_of-end c).Start).0
@@ -76,7 +76,7 @@ returns-then-not-has_room c =
     let p = good (goal.at.returns-then-not-has_room c).Else-not-well_formed in
     let q = fits (goal.at.returns-then-not-has_room c).Else-not-agrees in
     let full = room (goal.at.returns-then-not-has_room c).After-has_room ∙ not-true _ c.if-not-has_room.true-raw in
-    (rw (p, q, full) c.no_call-then-not-has_room.ensures, rw (p, q, full))
+    record { value = rw (p, q, full) c.no_call-then-not-has_room.ensures; store_after = rw (p, q, full) }
 
 pub slice_bounds-put_record-end : goal.slice_bounds-put_record-end
 slice_bounds-put_record-end c = sym (long (goal.at.slice_bounds-put_record-end c).Start).0
@@ -92,7 +92,4 @@ unfolding record_put record_put_store
 returns c =
     let p = good (goal.at.returns c).Else-not-well_formed in
     let q = fits (goal.at.returns c).Else-not-agrees in
-    let free = room (goal.at.returns c).After-has_room ∙ not-false _ c.if-not-has_room.false-raw in (
-      rw (p, q, free) (c.load.ensures ∙ ap (λ x. loaded x) (held-records _ _ _ c.put_record-n.ensures c.args.s)),
-      rw (p, q, free) (held-store _ _ _ c.put_record-n.ensures),
-    )
+    let free = room (goal.at.returns c).After-has_room ∙ not-false _ c.if-not-has_room.false-raw in record { value = rw (p, q, free) (c.load.ensures ∙ ap (λ x. loaded x) (held-records _ _ _ c.put_record-n.ensures c.args.s)); store_after = rw (p, q, free) (held-store _ _ _ c.put_record-n.ensures) }

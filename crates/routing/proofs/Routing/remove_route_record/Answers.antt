@@ -13,7 +13,7 @@ pub returns-then-not-well_formed : goal.returns-then-not-well_formed
 unfolding remove_route_record store_after_removal
 returns-then-not-well_formed c =
     let ill = sym c.well_formed-2.ensures ∙ not-true _ c.if-not-well_formed.true-raw in
-    (rw ill c.refuse_told.ensures, rw ill)
+    record { value = rw ill c.refuse_told.ensures; store_after = rw ill }
 
 pub agrees-requires : goal.agrees-requires
 agrees-requires c = (state-told _).fact (sym c.well_formed-2.ensures ∙ not-false _ c.if-not-well_formed.false-raw)
@@ -23,7 +23,7 @@ unfolding remove_route_record store_after_removal
 returns-then-not-agrees c =
     let good = sym c.well_formed-2.ensures ∙ not-false _ c.if-not-well_formed.false-raw in
     let off = sym c.agrees.ensures ∙ not-true _ c.if-not-agrees.true-raw in
-    (rw (good, off) c.refuse_told-then-not-agrees.ensures, rw (good, off))
+    record { value = rw (good, off) c.refuse_told-then-not-agrees.ensures; store_after = rw (good, off) }
 
 pub remove_record-x-requires : goal.remove_record-x-requires
 remove_record-x-requires c =
@@ -37,4 +37,4 @@ returns c =
     let good = sym c.well_formed-2.ensures ∙ not-false _ c.if-not-well_formed.false-raw in
     let fit = sym c.agrees.ensures ∙ not-false _ c.if-not-agrees.false-raw in
     let held = held-records c.args.self _ _ _ c.remove_record-x.ensures.holds in
-    (rw (good, fit) (λ z. record { answer = Told (c.remove_record-x.ensures.answers z); state = held.0 z }), rw (good, fit) held.1)
+    record { value = rw (good, fit) (λ z. record { answer = Told (c.remove_record-x.ensures.answers z); state = held.0 z }); store_after = rw (good, fit) held.1 }

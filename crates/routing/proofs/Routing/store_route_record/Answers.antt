@@ -16,7 +16,7 @@ slice_bounds-columns_formed-end-8 c = search (rules, c.well_formed.0.1.1.1.1.1.1
 
 pub returns-then-not-columns_formed : goal.returns-then-not-columns_formed
 unfolding store_route_record store_after_record
-returns-then-not-columns_formed c = (rw (sym (columns-told c.args.self c.columns_formed.ensures) ∙ not-true _ c.if-not-columns_formed.true-raw) c.refuse_record.ensures, rw (sym (columns-told c.args.self c.columns_formed.ensures) ∙ not-true _ c.if-not-columns_formed.true-raw))
+returns-then-not-columns_formed c = record { value = rw (sym (columns-told c.args.self c.columns_formed.ensures) ∙ not-true _ c.if-not-columns_formed.true-raw) c.refuse_record.ensures; store_after = rw (sym (columns-told c.args.self c.columns_formed.ensures) ∙ not-true _ c.if-not-columns_formed.true-raw) }
 
 pub slice_bounds-agrees-end : goal.slice_bounds-agrees-end
 slice_bounds-agrees-end c = sym ((state-told c.args.self).fact (sym (columns-told c.args.self c.columns_formed.ensures) ∙ not-false _ c.if-not-columns_formed.false-raw)).records.ordered.long.1.0
@@ -26,11 +26,11 @@ agrees-requires c = ((state-told c.args.self).fact (sym (columns-told c.args.sel
 
 pub returns-then-not-agrees : goal.returns-then-not-agrees
 unfolding store_route_record store_after_record
-returns-then-not-agrees c = (rw ((sym (columns-told c.args.self c.columns_formed.ensures) ∙ not-false _ c.if-not-columns_formed.false-raw), sym c.agrees.ensures ∙ not-true _ c.if-not-agrees.true-raw) c.refuse_record-then-not-agrees.ensures, rw ((sym (columns-told c.args.self c.columns_formed.ensures) ∙ not-false _ c.if-not-columns_formed.false-raw), sym c.agrees.ensures ∙ not-true _ c.if-not-agrees.true-raw))
+returns-then-not-agrees c = record { value = rw ((sym (columns-told c.args.self c.columns_formed.ensures) ∙ not-false _ c.if-not-columns_formed.false-raw), sym c.agrees.ensures ∙ not-true _ c.if-not-agrees.true-raw) c.refuse_record-then-not-agrees.ensures; store_after = rw ((sym (columns-told c.args.self c.columns_formed.ensures) ∙ not-false _ c.if-not-columns_formed.false-raw), sym c.agrees.ensures ∙ not-true _ c.if-not-agrees.true-raw) }
 
 pub returns-then-relays-gt32 : goal.returns-then-relays-gt32
 unfolding store_route_record store_after_record
-returns-then-relays-gt32 c = (rw ((sym (columns-told c.args.self c.columns_formed.ensures) ∙ not-false _ c.if-not-columns_formed.false-raw), (sym c.agrees.ensures ∙ not-false _ c.if-not-agrees.false-raw), lt-ltb 32 c.args.relays.count c.if-relays-gt32.true) c.refuse_record-then-relays-gt32.ensures, rw ((sym (columns-told c.args.self c.columns_formed.ensures) ∙ not-false _ c.if-not-columns_formed.false-raw), (sym c.agrees.ensures ∙ not-false _ c.if-not-agrees.false-raw), lt-ltb 32 c.args.relays.count c.if-relays-gt32.true))
+returns-then-relays-gt32 c = record { value = rw ((sym (columns-told c.args.self c.columns_formed.ensures) ∙ not-false _ c.if-not-columns_formed.false-raw), (sym c.agrees.ensures ∙ not-false _ c.if-not-agrees.false-raw), lt-ltb 32 c.args.relays.count c.if-relays-gt32.true) c.refuse_record-then-relays-gt32.ensures; store_after = rw ((sym (columns-told c.args.self c.columns_formed.ensures) ∙ not-false _ c.if-not-columns_formed.false-raw), (sym c.agrees.ensures ∙ not-false _ c.if-not-agrees.false-raw), lt-ltb 32 c.args.relays.count c.if-relays-gt32.true) }
 
 pub slice_bounds-store_record-end : goal.slice_bounds-store_record-end
 slice_bounds-store_record-end c = sym ((state-told c.args.self).fact (sym (columns-told c.args.self c.columns_formed.ensures) ∙ not-false _ c.if-not-columns_formed.false-raw)).records.ordered.long.0
@@ -43,4 +43,4 @@ store_record-x-requires c = (record { formed = ((state-told c.args.self).fact (s
 
 pub returns : goal.returns
 unfolding store_route_record store_after_record
-returns c = (rw ((sym (columns-told c.args.self c.columns_formed.ensures) ∙ not-false _ c.if-not-columns_formed.false-raw), (sym c.agrees.ensures ∙ not-false _ c.if-not-agrees.false-raw), (le-ltb 32 c.args.relays.count c.if-relays-gt32.false)) (λ z. record { answer = c.store_record-x.ensures.answers z; state = (held-records c.args.self _ _ _ c.store_record-x.ensures.holds).0 z }), rw ((sym (columns-told c.args.self c.columns_formed.ensures) ∙ not-false _ c.if-not-columns_formed.false-raw), (sym c.agrees.ensures ∙ not-false _ c.if-not-agrees.false-raw), (le-ltb 32 c.args.relays.count c.if-relays-gt32.false)) (held-records c.args.self _ _ _ c.store_record-x.ensures.holds).1)
+returns c = record { value = rw ((sym (columns-told c.args.self c.columns_formed.ensures) ∙ not-false _ c.if-not-columns_formed.false-raw), (sym c.agrees.ensures ∙ not-false _ c.if-not-agrees.false-raw), (le-ltb 32 c.args.relays.count c.if-relays-gt32.false)) (λ z. record { answer = c.store_record-x.ensures.answers z; state = (held-records c.args.self _ _ _ c.store_record-x.ensures.holds).0 z }); store_after = rw ((sym (columns-told c.args.self c.columns_formed.ensures) ∙ not-false _ c.if-not-columns_formed.false-raw), (sym c.agrees.ensures ∙ not-false _ c.if-not-agrees.false-raw), (le-ltb 32 c.args.relays.count c.if-relays-gt32.false)) (held-records c.args.self _ _ _ c.store_record-x.ensures.holds).1 }

@@ -5,4 +5,4 @@ use Rattle.routing_groups.proofs.records.remove_route_record.Goals as goal
 
 pub returns : goal.returns
 unfolding remove_route_record_call remove_route_record_store
-returns c = (c.told_reply.ensures ∙ rw (c.remove_route_record-o.ensures.0, c.nwk-destination.ensures), c.remove_route_record-o.ensures.1 ∙ rw c.nwk-destination.ensures)
+returns c = record { value = c.told_reply.ensures ∙ rw (c.remove_route_record-o.ensures.value, c.nwk-destination.ensures); store_after = c.remove_route_record-o.ensures.store_after ∙ rw c.nwk-destination.ensures }

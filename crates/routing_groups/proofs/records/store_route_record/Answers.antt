@@ -5,4 +5,4 @@ use Rattle.routing_groups.proofs.records.store_route_record.Goals as goal
 
 pub returns : goal.returns
 unfolding store_route_record_call store_route_record_store
-returns c = (c.record_reply.ensures ∙ rw (c.store_route_record-o.ensures.0, c.relays-l.ensures, c.nwk-source.ensures), c.store_route_record-o.ensures.1 ∙ rw (c.relays-l.ensures, c.nwk-source.ensures))
+returns c = record { value = c.record_reply.ensures ∙ rw (c.store_route_record-o.ensures.value, c.relays-l.ensures, c.nwk-source.ensures); store_after = c.store_route_record-o.ensures.store_after ∙ rw (c.relays-l.ensures, c.nwk-source.ensures) }
