@@ -9,4 +9,4 @@ header-header-requires c = omega (arith, c.after_mode.ensures, mode-near c.args.
 
 pub returns : goal.returns
 unfolding resolve_call
-returns c = rw (c.resolve_answer.ensures, c.resolve_said.ensures, c.header-header.ensures, c.after_mode.ensures, c.mode-mode.ensures, c.policy-policy.ensures)
+returns c = rw (c.resolve_answer.ensures, c.resolve-said.ensures, c.header-header.ensures, c.after_mode.ensures, c.mode-mode.ensures, c.policy-policy.ensures)
