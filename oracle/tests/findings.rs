@@ -127,7 +127,7 @@ fn decisions() {
 }
 
 #[test]
-fn neighbors() {
+fn neighbours() {
     // The order is that of the bytes over the air: 256 has its last byte but one set, 2^56 its first.
     let order = "upsert_child 72057594037927936 5 2 0 9 1 1; upsert_child 256 5 2 0 9 1 1; upsert_child 255 6 2 0 9 1 1; \
                  end_device_children";
