@@ -1,5 +1,5 @@
 // The two trigger counters of the routing state as a small record, by value and lent for change.
-// A function that is lent the record is proved by a walk of its code, by hand; the work is done by value, where the code is covered.
+// A function that is lent the record reads it, lets the function by value do the work, and writes back what that leaves.
 #![tactic(auto)]
 
 ghost use Rattle.std.specs.Prelude.{◌≡◌};
