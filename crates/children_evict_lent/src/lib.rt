@@ -46,6 +46,34 @@ fn keep_timely(
     n
 }
 
+// The neighbours but the end device children whose deadline has come, where `gone` says how many these are; how many are left.
+fn drop_late(
+    keys: &mut [u64],
+    nwks: &mut [u16],
+    links: &mut [u64],
+    counts: &mut [u64],
+    deadlines: &mut [u64],
+    periods: &mut [u64],
+    heard: &mut [u64],
+    added: &mut [u64],
+    beacons: &mut [u64],
+    bytes: &mut [u64],
+    count: usize,
+    now_ms: u64,
+    gone: usize,
+) -> usize
+    requires formed { WellFormed (in_columns keys.old nwks.old links.old counts.old deadlines.old periods.old heard.old added.old beacons.old bytes.old count) }
+    requires told { gone ≡ (evicted now_ms (rows_of (in_columns keys.old nwks.old links.old counts.old deadlines.old periods.old heard.old added.old beacons.old bytes.old count))).count }
+    ensures { Holds (in_columns keys.new nwks.new links.new counts.new deadlines.new periods.new heard.new added.new beacons.new bytes.new result) (evict_timed_out_children now_ms (rows_of (in_columns keys.old nwks.old links.old counts.old deadlines.old periods.old heard.old added.old beacons.old bytes.old count))) }
+{
+    if gone == 0 {
+        return count;
+    }
+    keep_timely(
+        keys, nwks, links, counts, deadlines, periods, heard, added, beacons, bytes, count, now_ms,
+    )
+}
+
 // End device children whose deadline has come are removed (05-3474, 3.6.10.1). Answers which.
 pub fn evict_timed_out_children(
     keys: &mut [u64],
@@ -68,11 +96,20 @@ pub fn evict_timed_out_children(
     let removed = neighbor_queries_lent::timed_out_children(
         keys, nwks, links, deadlines, count, now_ms,
     );
-    if removed.count == 0 {
-        return Evicted { removed, count };
-    }
-    let left = keep_timely(
-        keys, nwks, links, counts, deadlines, periods, heard, added, beacons, bytes, count, now_ms,
+    let left = drop_late(
+        keys,
+        nwks,
+        links,
+        counts,
+        deadlines,
+        periods,
+        heard,
+        added,
+        beacons,
+        bytes,
+        count,
+        now_ms,
+        removed.count,
     );
     Evicted {
         removed,
