@@ -2,6 +2,7 @@
 -- said, addresses in hexadecimal, requests not many-to-one."
 -- Each call is the definition that the exported function's contract cites.
 -- Assumes nothing.
+use Rattle.std.specs.Prelude.{Option, Some}
 use Prim.Native.Nat.{ℕ}
 use mathlib.Core.Bool.{false}
 use mathlib.Core.List.{List}
@@ -10,8 +11,6 @@ use Rattle.standard.specs.declared.ManyToOne.TheVariants.{NotManyToOne}
 use Rattle.standard.specs.declared.RouteEntry.{RouteEntry}
 use Rattle.standard.specs.declared.DiscoveryEntry.{DiscoveryEntry}
 use Rattle.standard.specs.declared.Status.{Status}
-use Rattle.standard.specs.declared.Update.{Update}
-use Rattle.standard.specs.declared.Update.TheVariants.{Changed}
 use Rattle.standard.specs.Route.{nwk}
 use Rattle.route_table.specs.Table as routes
 use Rattle.discovery_table.specs.Table as discoveries
@@ -20,6 +19,7 @@ use Rattle.routing.specs.declared.RouteRequestOutcome.{RouteRequestOutcome}
 use Rattle.routing.specs.declared.RouteReplyOutcome.{RouteReplyOutcome}
 use Rattle.routing.specs.Search.{accept_route_request, accept_route_reply}
 use Rattle.routing.specs.State.{fresh, with_search, route_table, discovery_table}
+use Rattle.standard.specs.declared.RouteUpdate.{RouteUpdate}
 
 -- the own address, the one time and the discovery time
 abbrev pub own : Nwk
@@ -40,8 +40,8 @@ abbrev pub told : Routing → ℕ → ℕ → ℕ → ℕ → ℕ → RouteReply
 told s originator id responder sender cost = accept_route_reply s own (nwk originator) id (nwk responder) (nwk sender) cost
 
 -- the update that a route to a destination goes by a hop at a cost
-abbrev pub now_by : ℕ → ℕ → ℕ → Update
-now_by destination hop cost = Changed (record { destination = nwk destination; next_hop = nwk hop; path_cost = cost })
+abbrev pub now_by : ℕ → ℕ → ℕ → Option RouteUpdate
+now_by destination hop cost = Some (record { destination = nwk destination; next_hop = nwk hop; path_cost = cost })
 
 -- the route to a destination, as a request or a search makes it
 abbrev pub route : ℕ → Status → ℕ → ℕ → RouteEntry

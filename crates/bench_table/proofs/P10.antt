@@ -1,8 +1,8 @@
 -- P10: "relays [A,B] from S, distinct: A has [B], B has [], S has [A,B]; the second time unchanged."
 -- For any three addresses and whatever records are held; and from no record, with three addresses, the whole table and that it was changed.
+use Rattle.std.specs.Prelude.{Some}
 use mathlib.Core.Bool.{true, false, not}
 use mathlib.Core.List.{List, [], ◌∷◌}
-use mathlib.Core.Option.{some}
 use mathlib.Core.Path.{◌≡◌, refl, sym, ap, ◌∙◌}
 use borrow.Author.Tests.{eq-eqb}
 use Rattle.types.specs.declared.Nwk.{Nwk}
@@ -20,20 +20,20 @@ module _ (a b s : Nwk) (not-ab : a.0 ≡ b.0 → ⊥) (not-as : a.0 ≡ s.0 → 
   abbrev after : List RouteRecord
   after = record_stored s (a ∷ b ∷ []) xs
 
-  pub p10-first : lookup address_key a.0 after ≡ some (record_for a (b ∷ []))
+  pub p10-first : lookup address_key a.0 after ≡ Some (record_for a (b ∷ []))
   unfolding record_stored relays_stored
   p10-first =
       lookup-put-other address_key a.0 (record_for s (a ∷ b ∷ [])) _ (λ e. not-as (sym e))
       ∙ lookup-put-other address_key a.0 (record_for b []) _ (λ e. not-ab (sym e))
       ∙ lookup-put-same address_key (record_for a (b ∷ [])) xs
 
-  pub p10-second : lookup address_key b.0 after ≡ some (record_for b [])
+  pub p10-second : lookup address_key b.0 after ≡ Some (record_for b [])
   unfolding record_stored relays_stored
   p10-second =
       lookup-put-other address_key b.0 (record_for s (a ∷ b ∷ [])) _ (λ e. not-bs (sym e))
       ∙ lookup-put-same address_key (record_for b []) _
 
-  pub p10-source : lookup address_key s.0 after ≡ some (record_for s (a ∷ b ∷ []))
+  pub p10-source : lookup address_key s.0 after ≡ Some (record_for s (a ∷ b ∷ []))
   unfolding record_stored
   p10-source = lookup-put-same address_key (record_for s (a ∷ b ∷ [])) _
 

@@ -1,4 +1,5 @@
 -- P12: "64 routes and a new originator: 1. One route removed: accepted."
+use Rattle.std.specs.Prelude.{Ok, Err}
 use Prim.Native.Nat.{ℕ, zero, suc}
 use mathlib.Core.Bool.{true}
 use mathlib.Core.List.{List, [], ◌∷◌}
@@ -19,14 +20,12 @@ use Rattle.route_table.specs.Table as routes
 use Rattle.discovery_table.specs.Table as discoveries
 use Rattle.record_table.specs.Table as records
 use Rattle.route_calls.specs.Answer.{step_to}
-use Rattle.route_request.specs.declared.RequestAnswer.TheVariants.{Refused, Answered}
 use Rattle.route_request.specs.Answer as request
 use Rattle.route_request.specs.Answer.{requested_on, requested}
 use Rattle.columns.specs.Columns.{places, ordered}
 use Rattle.route_table.specs.Codec.{route_word, route_in}
 use Rattle.discovery_table.specs.Codec.{discovery_word, discovery_in}
 use Rattle.routing.specs.declared.Routing.{Routing}
-use Rattle.routing.specs.declared.ToldAnswer.TheVariants.{Told}
 use Rattle.routing.specs.Routes.{restore_route, remove_route}
 use Rattle.routing.specs.Search.{accept_route_request}
 use Rattle.routing.specs.State.{well_formed, fresh}
@@ -51,9 +50,9 @@ unfolding restore_route calls.restore_route step_to well_formed ordered places r
 p12-filled = refl
 
 -- a new originator is refused with number 1, and the state is as it was
-pub p12-full : asked (filled 64) 0x1111 7 0x2222 5 ≡ record { answer = Refused RouteTableFull; state = filled 64 }
+pub p12-full : asked (filled 64) 0x1111 7 0x2222 5 ≡ record { answer = Err RouteTableFull; state = filled 64 }
 unfolding accept_route_request requested requested_on request.answered request request_to expired some_fits well_formed ordered places route_word route_in discovery_word discovery_in routes.table_of discoveries.table_of records.table_of lookup put considered considering news restore_route calls.restore_route step_to
-p12-full = subst (λ (s : Routing). asked s 0x1111 7 0x2222 5 ≡ record { answer = Refused RouteTableFull; state = s }) (sym p12-filled) refl
+p12-full = subst (λ (s : Routing). asked s 0x1111 7 0x2222 5 ≡ record { answer = Err RouteTableFull; state = s }) (sym p12-filled) refl
 
 pub p12-number : refusal_number RouteTableFull ≡ 1
 p12-number = refl
@@ -62,10 +61,10 @@ p12-number = refl
 abbrev pub less : Routing
 less = (remove_route (filled 64) (nwk 0x0010)).state
 
-pub p12-removed : (remove_route (filled 64) (nwk 0x0010)).answer ≡ Told true
+pub p12-removed : (remove_route (filled 64) (nwk 0x0010)).answer ≡ Ok true
 unfolding restore_route calls.restore_route step_to remove_route has_route remove well_formed ordered places route_word route_in discovery_word discovery_in routes.table_of discoveries.table_of records.table_of lookup put
 p12-removed = refl
 
-pub p12-accepted : (asked less 0x1111 7 0x2222 5).answer ≡ Answered true (now_by 0x1111 0x2222 5)
+pub p12-accepted : (asked less 0x1111 7 0x2222 5).answer ≡ Ok (true, now_by 0x1111 0x2222 5)
 unfolding accept_route_request requested requested_on request.answered request request_to expired some_fits well_formed ordered places route_word route_in discovery_word discovery_in routes.table_of discoveries.table_of records.table_of lookup put considered considering news restore_route calls.restore_route step_to remove_route has_route remove
 p12-accepted = refl

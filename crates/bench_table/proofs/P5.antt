@@ -1,9 +1,9 @@
 -- P5: "after P4, reply from 5555 for responder 4444, underway, costs 9, 9, 8: relay to 3333, drop, relay."
+use Rattle.std.specs.Prelude.{None, Ok}
 use mathlib.Core.List.{[], ◌∷◌}
 use mathlib.Core.Path.{◌≡◌, refl, subst, sym}
 use Rattle.standard.specs.declared.RouteReplyDisposition.TheVariants.{Drop, Relay}
 use Rattle.standard.specs.declared.Status.TheVariants.{Active, DiscoveryUnderway}
-use Rattle.standard.specs.declared.Update.TheVariants.{Same}
 use Rattle.standard.specs.Calls.{note_relayed}
 use Rattle.standard.specs.Expiry.{expired}
 use Rattle.standard.specs.Ordered.{lookup, put}
@@ -14,7 +14,6 @@ use Rattle.standard.specs.Route.{nwk, considered, considering, news}
 use Rattle.route_table.specs.Table as routes
 use Rattle.discovery_table.specs.Table as discoveries
 use Rattle.record_table.specs.Table as records
-use Rattle.route_reply.specs.declared.ReplyAnswer.TheVariants.{Answered}
 use Rattle.route_reply.specs.Answer as reply
 use Rattle.route_request.specs.Answer as request
 use Rattle.route_request.specs.Answer.{requested_on, requested}
@@ -47,7 +46,7 @@ pub p5-underway : routes_of underway ≡ route 0x1111 Active 0x2222 5 ∷ route 
 unfolding accept_route_reply reply.answered reply reply_to reply_theirs accept_route_request requested requested_on request.answered request request_to expired some_fits well_formed ordered places route_word route_in discovery_word discovery_in routes.table_of discoveries.table_of records.table_of lookup put considered considering news note_relayed_discovery note_relayed step_to
 p5-underway = refl
 
-pub p5-nine : nine.answer ≡ Answered (Relay (nwk 0x3333) 9) Same
+pub p5-nine : nine.answer ≡ Ok (Relay (nwk 0x3333) 9, None)
 unfolding accept_route_reply reply.answered reply reply_to reply_theirs accept_route_request requested requested_on request.answered request request_to expired some_fits well_formed ordered places route_word route_in discovery_word discovery_in routes.table_of discoveries.table_of records.table_of lookup put considered considering news note_relayed_discovery note_relayed step_to
 p5-nine = refl
 
@@ -57,11 +56,11 @@ unfolding accept_route_reply reply.answered reply reply_to reply_theirs accept_r
 p5-nine-state = refl
 
 -- a drop changes nothing
-pub p5-nine-again : nine_again ≡ record { answer = Answered Drop Same; state = nine.state }
+pub p5-nine-again : nine_again ≡ record { answer = Ok (Drop, None); state = nine.state }
 unfolding accept_route_reply reply.answered reply reply_to reply_theirs accept_route_request requested requested_on request.answered request request_to expired some_fits well_formed ordered places route_word route_in discovery_word discovery_in routes.table_of discoveries.table_of records.table_of lookup put considered considering news note_relayed_discovery note_relayed step_to
-p5-nine-again = subst (λ (s : Routing). told s 0x1111 7 0x4444 0x5555 9 ≡ record { answer = Answered Drop Same; state = s }) (sym p5-nine-state) refl
+p5-nine-again = subst (λ (s : Routing). told s 0x1111 7 0x4444 0x5555 9 ≡ record { answer = Ok (Drop, None); state = s }) (sym p5-nine-state) refl
 
-pub p5-eight : eight.answer ≡ Answered (Relay (nwk 0x3333) 8) Same
+pub p5-eight : eight.answer ≡ Ok (Relay (nwk 0x3333) 8, None)
 unfolding accept_route_reply reply.answered reply reply_to reply_theirs accept_route_request requested requested_on request.answered request request_to expired some_fits well_formed ordered places route_word route_in discovery_word discovery_in routes.table_of discoveries.table_of records.table_of lookup put considered considering news note_relayed_discovery note_relayed step_to
 p5-eight = refl
 

@@ -1,9 +1,9 @@
 -- P7: "own search, route Active, cost equal to residual: drop. Route Inactive, cost higher: established."
+use Rattle.std.specs.Prelude.{None, Ok}
 use mathlib.Core.List.{[], ◌∷◌}
 use mathlib.Core.Path.{◌≡◌, refl}
 use Rattle.standard.specs.declared.RouteReplyDisposition.TheVariants.{Drop, Established}
 use Rattle.standard.specs.declared.Status.TheVariants.{Active, Inactive}
-use Rattle.standard.specs.declared.Update.TheVariants.{Same}
 use Rattle.standard.specs.Begin.{begin, own_discovery}
 use Rattle.standard.specs.Expiry.{expired}
 use Rattle.standard.specs.Ordered.{lookup, put}
@@ -14,7 +14,6 @@ use Rattle.route_table.specs.Table as routes
 use Rattle.discovery_table.specs.Table as discoveries
 use Rattle.record_table.specs.Table as records
 use Rattle.route_begin.specs.Answer.{begun, begun_on, begun_with}
-use Rattle.route_reply.specs.declared.ReplyAnswer.TheVariants.{Answered}
 use Rattle.route_reply.specs.Answer as reply
 use Rattle.columns.specs.Columns.{places, ordered}
 use Rattle.route_table.specs.Codec.{route_word, route_in}
@@ -34,7 +33,7 @@ begins = (begin_discovery fresh own (nwk 0x4444) moment span).state
 abbrev pub found : RouteReplyOutcome
 found = told begins 0x0000 1 0x4444 0x5555 9
 
-pub p7-found : found.answer ≡ Answered Established (now_by 0x4444 0x5555 9)
+pub p7-found : found.answer ≡ Ok (Established, now_by 0x4444 0x5555 9)
 unfolding accept_route_reply reply.answered reply reply_to reply_ours news begin_discovery begun begun_on begun_with begin expired some_fits well_formed ordered places route_word route_in discovery_word discovery_in routes.table_of discoveries.table_of records.table_of lookup put
 p7-found = refl
 
@@ -47,7 +46,7 @@ unfolding accept_route_reply reply.answered reply reply_to reply_ours news begin
 p7-residual = refl
 
 -- Active, and the cost equal to the residual: dropped, and nothing changes
-pub p7-equal : told found.state 0x0000 1 0x4444 0x6666 9 ≡ record { answer = Answered Drop Same; state = found.state }
+pub p7-equal : told found.state 0x0000 1 0x4444 0x6666 9 ≡ record { answer = Ok (Drop, None); state = found.state }
 unfolding accept_route_reply reply.answered reply reply_to reply_ours news begin_discovery begun begun_on begun_with begin expired some_fits well_formed ordered places route_word route_in discovery_word discovery_in routes.table_of discoveries.table_of records.table_of lookup put
 p7-equal = refl
 
@@ -63,7 +62,7 @@ p7-inactive = refl
 abbrev pub anew : RouteReplyOutcome
 anew = told lost 0x0000 1 0x4444 0x6666 10
 
-pub p7-higher : anew.answer ≡ Answered Established (now_by 0x4444 0x6666 10)
+pub p7-higher : anew.answer ≡ Ok (Established, now_by 0x4444 0x6666 10)
 unfolding accept_route_reply reply.answered reply reply_to reply_ours news begin_discovery begun begun_on begun_with begin expired some_fits well_formed ordered places route_word route_in discovery_word discovery_in routes.table_of discoveries.table_of records.table_of lookup put invalidate_via
 p7-higher = refl
 

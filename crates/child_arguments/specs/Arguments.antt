@@ -1,7 +1,7 @@
 -- What a call about children or a link status is given, read from numbers: values that may be given, lists, a child, a command.
 -- "OPT is `0` or `1 value`. LIST is `n x1 .. xn`." A count above the array's length stays as it is, and only what has a place is read.
 -- Assumes nothing.
-use Rattle.std.specs.Prelude.{ℕ, ◌+◌, ◌*◌, min, cond, List}
+use Rattle.std.specs.Prelude.{ℕ, ◌+◌, ◌*◌, min, cond, List, Option, Some, None}
 use Rattle.types.specs.declared.Eui64.{Eui64}
 use Rattle.numbers.specs.Read.{number_at, byte_at, flag_at, nwk_at, eui64_at, listed}
 use Rattle.flat_map.specs.Rows.{pad}
@@ -9,20 +9,17 @@ use Rattle.neighbor_queries.specs.declared.Eui64List.{Eui64List}
 use Rattle.neighbor_queries.specs.declared.LinkStatus.{LinkStatus}
 use Rattle.neighbor_queries.specs.Lists.{no_name, no_status}
 use Rattle.neighbor_values.specs.Kinds.{device_type_of, relationship_of}
-use Rattle.children.specs.declared.MaybeEui64.{MaybeEui64}
-use Rattle.children.specs.declared.MaybeEui64.TheVariants as names
-use Rattle.children.specs.declared.MaybeNwk.{MaybeNwk}
-use Rattle.children.specs.declared.MaybeNwk.TheVariants as addresses
 use Rattle.children.specs.declared.ChildDescriptor.{ChildDescriptor}
 use Rattle.link_status.specs.declared.LinkStatusCommand.{LinkStatusCommand}
 use Rattle.child_arguments.specs.declared.Poll.{Poll}
+use Rattle.types.specs.declared.Nwk.{Nwk}
 
 -- an address that may be given at a place
-abbrev pub maybe_eui64_at : List ℕ → ℕ → MaybeEui64
-maybe_eui64_at args i = cond (flag_at args i) (names.Given (eui64_at args (i + 1))) names.Absent
+abbrev pub maybe_eui64_at : List ℕ → ℕ → Option Eui64
+maybe_eui64_at args i = cond (flag_at args i) (Some (eui64_at args (i + 1))) None
 
-abbrev pub maybe_nwk_at : List ℕ → ℕ → MaybeNwk
-maybe_nwk_at args i = cond (flag_at args i) (addresses.Given (nwk_at args (i + 1))) addresses.Absent
+abbrev pub maybe_nwk_at : List ℕ → ℕ → Option Nwk
+maybe_nwk_at args i = cond (flag_at args i) (Some (nwk_at args (i + 1))) None
 
 -- the place after a value that may be given
 unfoldable pub past : List ℕ → ℕ → ℕ

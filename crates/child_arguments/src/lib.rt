@@ -4,7 +4,7 @@
 ghost use Rattle.std.specs.Prelude.{◌≡◌, ◌<◌};
 ghost use Rattle.child_arguments.specs.Arguments.{maybe_eui64_at, maybe_nwk_at, past, poll_of, child_of, status_at, names_of, command_to, command_of};
 
-use children::{ChildDescriptor, MaybeEui64, MaybeNwk};
+use children::ChildDescriptor;
 use link_status::LinkStatusCommand;
 use neighbor_queries::{Eui64List, LinkStatus};
 use types::{Eui64, Nwk};
@@ -12,32 +12,32 @@ use types::{Eui64, Nwk};
 // A data poll: who may have sent it, and when.
 #[derive(Drop)]
 pub struct Poll {
-    pub eui64: MaybeEui64,
-    pub nwk: MaybeNwk,
+    pub eui64: Option<Eui64>,
+    pub nwk: Option<Nwk>,
     pub now: u64,
 }
 
 // An extended address that may be given, at a place.
-fn maybe_eui64(args: &[u64], i: usize) -> MaybeEui64
+fn maybe_eui64(args: &[u64], i: usize) -> Option<Eui64>
     requires { i < 8 }
     ensures { result ≡ maybe_eui64_at args.now i }
 {
     if numbers::flag(args, i) {
-        MaybeEui64::Given(numbers::eui64(args, i + 1))
+        Some(numbers::eui64(args, i + 1))
     } else {
-        MaybeEui64::Absent
+        None
     }
 }
 
 // A network address that may be given, at a place.
-fn maybe_nwk(args: &[u64], i: usize) -> MaybeNwk
+fn maybe_nwk(args: &[u64], i: usize) -> Option<Nwk>
     requires { i < 8 }
     ensures { result ≡ maybe_nwk_at args.now i }
 {
     if numbers::flag(args, i) {
-        MaybeNwk::Given(numbers::nwk(args, i + 1))
+        Some(numbers::nwk(args, i + 1))
     } else {
-        MaybeNwk::Absent
+        None
     }
 }
 
@@ -86,17 +86,15 @@ pub fn names(args: &[u64]) -> Eui64List
     ensures { result ≡ names_of args.now }
 {
     let count = numbers::at(args, 0) as usize;
-    let end = numbers::at_most(count, 64);
+    let end = count.min(64);
     let blank = Eui64(0);
     let mut list = Eui64List {
         count,
         addresses: [blank; 64],
     };
-    let mut i: usize = 0;
-    while i < end {
+    for i in 0..end {
         let name = numbers::eui64(args, i + 1);
         list.addresses[i] = name;
-        i += 1;
     }
     list
 }
@@ -141,12 +139,10 @@ pub fn command(args: &[u64]) -> LinkStatusCommand
     ensures { result ≡ command_of args.now }
 {
     let mut command = bare_command(args);
-    let end = numbers::at_most(command.count, 31);
-    let mut i: usize = 0;
-    while i < end {
+    let end = command.count.min(31);
+    for i in 0..end {
         let status = status(args, i);
         command.statuses[i] = status;
-        i += 1;
     }
     command
 }

@@ -1,10 +1,9 @@
 -- What a joining child stores: the Rust's `upsert_child`.
 -- Document 01, "Capacities and clock"; a known child keeps samples, configuration, keepalive, costs and time stamps.
 -- Assumes nothing.
-use Rattle.std.specs.Prelude.{ℕ, cond}
+use Rattle.std.specs.Prelude.{ℕ, Option, Some, None}
 use Rattle.types.specs.declared.Eui64.{Eui64}
 use Rattle.neighbor_table.specs.declared.NeighborEntry.{NeighborEntry}
-use Rattle.neighbor_table.specs.declared.NeighborLookup.{NeighborLookup}
 use Rattle.neighbor_table.specs.Entry.{blank_neighbor}
 use Rattle.children.specs.declared.ChildDescriptor.{ChildDescriptor}
 
@@ -37,8 +36,9 @@ new_entry eui64 now = record {
 }
 
 -- the entry that was found, or else a new one
-abbrev pub start_in : NeighborLookup → Eui64 → ℕ → NeighborEntry
-start_in l eui64 now = cond l.found l.entry (new_entry eui64 now)
+abbrev pub start_in : Option NeighborEntry → Eui64 → ℕ → NeighborEntry
+start_in None eui64 now = new_entry eui64 now
+start_in (Some e) eui64 now = e
 
 -- what the device says of itself, with its deadline
 abbrev pub attached : ChildDescriptor → ℕ → NeighborEntry → NeighborEntry

@@ -4,22 +4,9 @@
 ghost use Rattle.std.specs.Prelude.{◌≡◌};
 ghost use Rattle.children.specs.Attach.{start_in, attached};
 
-use neighbor_table::{NeighborEntry, NeighborLookup, NwkDeviceType, Relationship};
+use neighbor_table::{NeighborEntry, NwkDeviceType, Relationship};
+use ring_buffer::RingBuffer;
 use types::{Eui64, Nwk};
-
-// An extended address that may be given.
-#[derive(Drop)]
-pub enum MaybeEui64 {
-    Given(Eui64),
-    Absent,
-}
-
-// A network address that may be given.
-#[derive(Drop)]
-pub enum MaybeNwk {
-    Given(Nwk),
-    Absent,
-}
 
 // A child as it joins or rejoins.
 #[derive(Drop)]
@@ -33,18 +20,37 @@ pub struct ChildDescriptor {
 }
 
 // The entry that a joining child starts from: the one that it has, or a new one.
-pub fn start_in(found: NeighborLookup, eui64: Eui64, now: u64) -> NeighborEntry
+pub fn start_in(found: Option<NeighborEntry>, eui64: Eui64, now: u64) -> NeighborEntry
     ensures { result ≡ start_in found eui64 now }
 {
-    if found.found {
-        return found.entry;
+    match found {
+        Some(e) => e,
+        None => NeighborEntry {
+            extended_address: eui64,
+            network_address: Nwk(0),
+            device_type: NwkDeviceType::Coordinator,
+            rx_on_when_idle: false,
+            end_device_configuration: 0,
+            timeout_at: 0,
+            device_timeout: 0,
+            relationship: Relationship::Parent,
+            transmit_failure: 0,
+            lqas: RingBuffer::new(),
+            outgoing_cost: 0,
+            last_link_status_timestamp: now,
+            incoming_beacon_timestamp: 0,
+            beacon_transmission_time_offset: 0,
+            keepalive_received: false,
+            mac_unicast_bytes_transmitted: 0,
+            mac_unicast_bytes_received: 0,
+            router_added_timestamp: now,
+            router_connectivity: 0,
+            router_neighbor_set_diversity: 0,
+            router_outbound_activity: 0,
+            router_inbound_activity: 0,
+            security_timer: 0,
+        },
     }
-    let missing = neighbor_table::missing();
-    let mut e = missing.entry;
-    e.extended_address = eui64;
-    e.last_link_status_timestamp = now;
-    e.router_added_timestamp = now;
-    e
 }
 
 // What a device may change from one attachment to the next is stored anew.

@@ -34,6 +34,7 @@ fn keep_timely(
 {
     let mut n = count;
     let mut i: usize = 0;
+    // A row that goes makes room for the next in its own place, so that the place and the count do not simply count.
     while i < n {
         if neighbor_queries_lent::is_timed_out(links[i], deadlines[i], now_ms) {
             n = neighbor_steps::remove_at(

@@ -16,41 +16,44 @@ ghost use Rattle.children_lent.specs.Places.{StandsAt};
 ghost use Rattle.children_lent.specs.Parts.{kept_link, configured, child_here};
 ghost use Rattle.children_lent.specs.Rules.{refresh_answer, refresh_child_timeout, set_answer, set_child_timeout};
 
-use children::{MaybeEui64, MaybeNwk};
-use flat_map::Place;
-use neighbor_queries::Truth;
-use types::{Nwk, Refusal, Sum};
+use types::{Eui64, Nwk, Refusal};
 
 // Where the neighbour of an extended address that may be given stands; the count where there is none.
-fn place_named(keys: &[u64], count: usize, eui64: MaybeEui64) -> usize
+fn place_named(keys: &[u64], count: usize, eui64: Option<Eui64>) -> usize
     requires { (count ≤ length keys.now) × Rising keys.now count }
     ensures { StandsAt (lent_keys keys.now count) (by_name_of eui64) count result }
 {
     match eui64 {
-        MaybeEui64::Given(name) => {
+        Some(name) => {
             let place = neighbor_columns::place_of(keys, count, name);
             match place {
-                Place::Found(i) => i,
-                Place::Missing(_) => count,
+                Ok(i) => i,
+                Err(_) => count,
             }
         }
-        MaybeEui64::Absent => count,
+        None => count,
     }
 }
 
 // Where the first neighbour with a network address that may be given stands; the count where there is none.
-fn place_addressed(nwks: &[u16], count: usize, nwk: MaybeNwk) -> usize
+fn place_addressed(nwks: &[u16], count: usize, nwk: Option<Nwk>) -> usize
     requires { (count ≤ length nwks.now) × (count ≤ 64) }
     ensures { StandsAt (λ t. with_nwks nwks.now (with_count count t)) (by_address nwk) count result }
 {
     match nwk {
-        MaybeNwk::Given(address) => columns::first16(nwks, count, address.0),
-        MaybeNwk::Absent => count,
+        Some(address) => columns::first16(nwks, count, address.0),
+        None => count,
     }
 }
 
 // Where the neighbour of the extended address stands, or else the first with the network address.
-fn place_known(keys: &[u64], nwks: &[u16], count: usize, eui64: MaybeEui64, nwk: MaybeNwk) -> usize
+fn place_known(
+    keys: &[u64],
+    nwks: &[u16],
+    count: usize,
+    eui64: Option<Eui64>,
+    nwk: Option<Nwk>,
+) -> usize
     requires { Ordered 64 keys.now (nwks.now ∷ []) count }
     ensures { StandsAt (λ t. with_nwks nwks.now (lent_keys keys.now count t)) (known eui64 nwk) count result }
 {
@@ -78,26 +81,26 @@ pub fn refresh_child_timeout(
     deadlines: &mut [u64],
     periods: &[u64],
     count: usize,
-    eui64: MaybeEui64,
-    nwk: MaybeNwk,
+    eui64: Option<Eui64>,
+    nwk: Option<Nwk>,
     now_ms: u64,
-) -> Truth
+) -> Result<bool, Refusal>
     requires { Ordered 64 keys.now (nwks.now ∷ links.old ∷ deadlines.old ∷ periods.now ∷ []) count }
     ensures { Asked (λ t. with_nwks nwks.now (with_periods periods.now (lent_keys keys.now count t))) (λ xs. result ≡ refresh_answer now_ms (known eui64 nwk xs))
         × Changed (λ t. with_links links.old (with_deadlines deadlines.old (with_nwks nwks.now (with_periods periods.now (lent_keys keys.now count t))))) (λ t. with_links links.new (with_deadlines deadlines.new (with_nwks nwks.now (with_periods periods.now (lent_keys keys.now count t))))) (refresh_child_timeout eui64 nwk now_ms) }
 {
     let i = place_known(keys, nwks, count, eui64, nwk);
     if count <= i {
-        return Truth::Is(false);
+        return Ok(false);
     }
     let sum = types::time_sum(now_ms, periods[i]);
     match sum {
-        Sum::At(at) => {
+        Some(at) => {
             links[i] = kept_link(links[i]);
             deadlines[i] = at;
-            Truth::Is(true)
+            Ok(true)
         }
-        Sum::Past => Truth::Refused(Refusal::TimePastEnd),
+        None => Err(Refusal::TimePastEnd),
     }
 }
 
@@ -118,12 +121,10 @@ fn place_of_child(nwks: &[u16], links: &[u64], count: usize, nwk: Nwk) -> usize
     requires { (count ≤ length nwks.now) × (count ≤ length links.now) }
     ensures { StandsAt (λ t. with_nwks nwks.now (with_links links.now (with_count count t))) (first (fits (EndDeviceChildAt nwk))) count result }
 {
-    let mut i: usize = 0;
-    while i < count {
+    for i in 0..count {
         if child_here(nwk, nwks[i], links[i]) {
             return i;
         }
-        i += 1;
     }
     count
 }
@@ -149,24 +150,24 @@ pub fn set_child_timeout(
     timeout: u64,
     configuration: u16,
     now_ms: u64,
-) -> Truth
+) -> Result<bool, Refusal>
     requires { Long 64 (nwks.now ∷ links.old ∷ counts.old ∷ deadlines.old ∷ periods.old ∷ []) × (count ≤ 64) }
     ensures { Asked (λ t. with_nwks nwks.now (with_links links.old (with_count count t))) (λ xs. result ≡ set_answer (time_sum now_ms timeout) (first (fits (EndDeviceChildAt nwk)) xs))
         × Changed (λ t. with_nwks nwks.now (with_links links.old (with_counts counts.old (with_deadlines deadlines.old (with_periods periods.old (with_count count t)))))) (λ t. with_nwks nwks.now (with_links links.new (with_counts counts.new (with_deadlines deadlines.new (with_periods periods.new (with_count count t)))))) (set_child_timeout nwk timeout configuration now_ms) }
 {
     let i = place_of_child(nwks, links, count, nwk);
     if count <= i {
-        return Truth::Is(false);
+        return Ok(false);
     }
     let sum = types::time_sum(now_ms, timeout);
     match sum {
-        Sum::At(at) => {
+        Some(at) => {
             links[i] = kept_link(links[i]);
             counts[i] = configured_word(counts[i], configuration);
             deadlines[i] = at;
             periods[i] = timeout;
-            Truth::Is(true)
+            Ok(true)
         }
-        Sum::Past => Truth::Refused(Refusal::TimePastEnd),
+        None => Err(Refusal::TimePastEnd),
     }
 }

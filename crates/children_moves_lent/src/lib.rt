@@ -3,7 +3,6 @@
 #![tactic(auto)]
 
 ghost use Rattle.std.specs.Prelude.{◌≡◌};
-ghost use Rattle.types.specs.declared.Sum.TheVariants.{At};
 ghost use Rattle.types.specs.Clock.{time_sum};
 ghost use Rattle.standard.specs.Ordered.{lookup};
 ghost use Rattle.neighbor_table.specs.Entry.{neighbor_key, is_child_of};
@@ -12,21 +11,19 @@ ghost use Rattle.neighbor_columns.specs.Table.{in_columns, rows_of, WellFormed, 
 ghost use Rattle.children_moves_lent.specs.Rules.{take_answer, take_child, upsert_answer, upserted, upsert_child};
 
 use children::ChildDescriptor;
-use flat_map::Place;
-use neighbor_queries::{Answer, NwkAnswer};
-use types::{Eui64, Nwk, Refusal, Sum};
+use types::{Eui64, Nwk, Refusal};
 
 // A network address, if there is one, and how many neighbours there are after.
 #[derive(Drop)]
 pub struct Taken {
-    pub answer: NwkAnswer,
+    pub answer: Result<Option<Nwk>, Refusal>,
     pub count: usize,
 }
 
 // Whether a call was done, and how many neighbours there are after.
 #[derive(Drop)]
 pub struct Upserted {
-    pub answer: Answer,
+    pub answer: Result<(), Refusal>,
     pub count: usize,
 }
 
@@ -60,10 +57,10 @@ pub fn take_child(
 {
     let place = neighbor_columns::place_of(keys, count, eui64);
     match place {
-        Place::Found(i) => {
+        Ok(i) => {
             if !is_child_link(links[i]) {
                 return Taken {
-                    answer: NwkAnswer::Nothing,
+                    answer: Ok(None),
                     count,
                 };
             }
@@ -73,12 +70,12 @@ pub fn take_child(
                 i,
             );
             Taken {
-                answer: NwkAnswer::Is(address),
+                answer: Ok(Some(address)),
                 count: left,
             }
         }
-        Place::Missing(_) => Taken {
-            answer: NwkAnswer::Nothing,
+        Err(_) => Taken {
+            answer: Ok(None),
             count,
         },
     }
@@ -102,13 +99,13 @@ fn place(
     now_ms: u64,
 ) -> Upserted
     requires { WellFormed (in_columns keys.old nwks.old links.old counts.old deadlines.old periods.old heard.old added.old beacons.old bytes.old count) }
-    ensures { (result.answer ≡ upsert_answer child (At at) (rows_of (in_columns keys.old nwks.old links.old counts.old deadlines.old periods.old heard.old added.old beacons.old bytes.old count)))
-        × Holds (in_columns keys.new nwks.new links.new counts.new deadlines.new periods.new heard.new added.new beacons.new bytes.new result.count) (upserted child now_ms (At at) (rows_of (in_columns keys.old nwks.old links.old counts.old deadlines.old periods.old heard.old added.old beacons.old bytes.old count))) }
+    ensures { (result.answer ≡ upsert_answer child (Some at) (rows_of (in_columns keys.old nwks.old links.old counts.old deadlines.old periods.old heard.old added.old beacons.old bytes.old count)))
+        × Holds (in_columns keys.new nwks.new links.new counts.new deadlines.new periods.new heard.new added.new beacons.new bytes.new result.count) (upserted child now_ms (Some at) (rows_of (in_columns keys.old nwks.old links.old counts.old deadlines.old periods.old heard.old added.old beacons.old bytes.old count))) }
 {
     let eui64 = child.eui64;
     if !neighbor_columns::has_room(keys, count, eui64) {
         return Upserted {
-            answer: Answer::Refused(Refusal::NeighborTableFull),
+            answer: Err(Refusal::NeighborTableFull),
             count,
         };
     }
@@ -122,7 +119,7 @@ fn place(
         e,
     );
     Upserted {
-        answer: Answer::Done,
+        answer: Ok(()),
         count: left,
     }
 }
@@ -149,12 +146,12 @@ pub fn upsert_child(
 {
     let sum = types::time_sum(now_ms, child.device_timeout);
     match sum {
-        Sum::At(at) => place(
+        Some(at) => place(
             keys, nwks, links, counts, deadlines, periods, heard, added, beacons, bytes, count,
             child, at, now_ms,
         ),
-        Sum::Past => Upserted {
-            answer: Answer::Refused(Refusal::TimePastEnd),
+        None => Upserted {
+            answer: Err(Refusal::TimePastEnd),
             count,
         },
     }

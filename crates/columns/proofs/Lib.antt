@@ -1,4 +1,5 @@
 pub mod Shift
+pub mod Split
 pub mod Tested
 pub mod Places
 pub mod Formed

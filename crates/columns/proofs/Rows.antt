@@ -1,19 +1,17 @@
 -- A step on sound columns is a step on their rows, and leaves them sound: a row stored over the one of its key, put in, taken out.
 -- Once over the number of columns, the capacity, the kind of row and its layout.
+use Rattle.std.specs.Prelude.{Some, None, Result, Ok, Err}
 use Prim.Native.Nat.{ℕ, zero, suc, ◌+◌, ◌-◌, ◌<◌, ◌≤◌}
 use native.Mathlib.Nat.{eq-or-lt_of_le}
 use native.Mathlib.Omega.{arith}
 use mathlib.Core.List.{List, [], ◌∷◌, map}
 use mathlib.Core.Logic.{◌⊎◌, inl, inr, ⊎_elim}
-use mathlib.Core.Option.{none, some}
 use mathlib.Core.Path.{◌≡◌, refl, sym, ap, ◌∙◌, subst}
 use lib.ListN.{length, take, drop, get_or, set}
 use borrow.Author.Tests.{le-leb}
 use lib.Dec.{leb}
 use Rattle.standard.specs.Ordered.{lookup, put, remove, count_with}
 use Rattle.standard.proofs.Tells.{tells-one, tells-le, tells-lt, tells-so}
-use Rattle.flat_map.specs.declared.Place.{Place}
-use Rattle.flat_map.specs.declared.Place.TheVariants.{Found, Missing}
 use Rattle.flat_map.specs.Rows.{remove_at}
 use Rattle.flat_map.specs.Seek.{place_of}
 use Rattle.flat_map.specs.Shift.{shift_in, shift_out}
@@ -137,20 +135,20 @@ module _
     row_reads i = formed.reads cap width key_of blank read write Clean InRange c ks cs n s.wide s.ordered.long i
 
     -- what the place of a key says of the rows
-    pub found : (k i : ℕ) → Found i ≡ place_of (take n ks) k → lookup key_of k rows ≡ some (read (at i (ks ∷ cs)))
-    found k i p = found-row cap key_of blank ks es n table k i p ∙ ap some (row_reads i)
+    pub found : (k i : ℕ) → Ok i ≡ place_of (take n ks) k → lookup key_of k rows ≡ Some (read (at i (ks ∷ cs)))
+    found k i p = found-row cap key_of blank ks es n table k i p ∙ ap Some (row_reads i)
 
-    pub found_below : (k i : ℕ) → Found i ≡ place_of (take n ks) k → i < n
+    pub found_below : (k i : ℕ) → Ok i ≡ place_of (take n ks) k → i < n
     found_below k i p = found_within cap key_of blank ks es n table k i p
 
-    pub found-key : (k i : ℕ) → Found i ≡ place_of (take n ks) k → get_or ks i 0 ≡ k
-    found-key k i p = sym (get_or-take n ks i 0 (found_below k i p)) ∙ (placed_at (take n ks) k (Found i) p).1
+    pub found-key : (k i : ℕ) → Ok i ≡ place_of (take n ks) k → get_or ks i 0 ≡ k
+    found-key k i p = sym (get_or-take n ks i 0 (found_below k i p)) ∙ (placed_at (take n ks) k (Ok i) p).1
 
-    pub missing : (k i : ℕ) → Missing i ≡ place_of (take n ks) k → lookup key_of k rows ≡ none
+    pub missing : (k i : ℕ) → Err i ≡ place_of (take n ks) k → lookup key_of k rows ≡ None
     missing k i p = missing-row cap key_of blank ks es n table k i p
 
     -- the place of the key that stands in a place
-    pub own-place : (i : ℕ) → i < n → Found i ≡ place_of (take n ks) (get_or ks i 0)
+    pub own-place : (i : ℕ) → i < n → Ok i ≡ place_of (take n ks) (get_or ks i 0)
     own-place i h =
         found_at ks n (get_or ks i 0) (omega (arith, s.ordered.small, s.ordered.long.0)) i h (below_at ks n (get_or ks i 0) s.ordered.rising i h refl) refl
 
@@ -174,7 +172,7 @@ module _
       abbrev pub over : List (List ℕ)
       over = sets i (drop 1 (write e)) cs
 
-      module _ (p : Found i ≡ place_of (take n ks) (key_of e)) where
+      module _ (p : Ok i ≡ place_of (take n ks) (key_of e)) where
         over-is : sets i (write e) (ks ∷ cs) ≡ ks ∷ over
         over-is =
             ap (λ (vs : List ℕ). sets i vs (ks ∷ cs)) (vs-head e)
@@ -215,7 +213,7 @@ module _
       abbrev pub in-others : List (List ℕ)
       in-others = ins i (drop 1 (write e)) cs
 
-      module _ (p : Missing i ≡ place_of (take n ks) (key_of e)) (room : n < cap) where
+      module _ (p : Err i ≡ place_of (take n ks) (key_of e)) (room : n < cap) where
         in_is : ins i (write e) (ks ∷ cs) ≡ in-keys ∷ in-others
         in_is = ap (λ (vs : List ℕ). ins i vs (ks ∷ cs)) (vs-head e)
 
@@ -286,16 +284,16 @@ module _
             (subst (λ (l : List E). Holds cap key_of blank out-keys l (n - 1) (remove_at i rows)) (sym out-entries) (taken_out cap key_of blank ks es n table i h))
             less
 
-      pub out-key : (k : ℕ) → Found i ≡ place_of (take n ks) k → Sound cap width Clean out-keys out-others (n - 1) × (rows_in read cap (out-keys ∷ out-others) (n - 1) ≡ remove key_of k rows)
+      pub out-key : (k : ℕ) → Ok i ≡ place_of (take n ks) k → Sound cap width Clean out-keys out-others (n - 1) × (rows_in read cap (out-keys ∷ out-others) (n - 1) ≡ remove key_of k rows)
       out-key k p =
           back out-keys out-others (n - 1) (remove key_of k rows) out-wide out-long out-clean
           (subst (λ (l : List E). Holds cap key_of blank out-keys l (n - 1) (remove key_of k rows)) (sym out-entries) (removed cap key_of blank ks es n table k i p))
           (fit-remove cap key_of blank rows rows_fit k)
 
     -- what the place of a key says of the room for a row under it
-    pub room-told : (k : ℕ) (p : Place) → p ≡ place_of (take n ks) k → leb (count_with key_of k rows) cap ≡ room_for p n cap
-    room-told k (Found i) q = le-leb (count_with key_of k rows) cap (room-known cap key_of blank rows rows_fit k (read (at i (ks ∷ cs))) (found k i q))
-    room-told k (Missing i) q =
+    pub room-told : (k : ℕ) (p : Result ℕ ℕ) → p ≡ place_of (take n ks) k → leb (count_with key_of k rows) cap ≡ room_for p n cap
+    room-told k (Ok i) q = le-leb (count_with key_of k rows) cap (room-known cap key_of blank rows rows_fit k (read (at i (ks ∷ cs))) (found k i q))
+    room-told k (Err i) q =
         tells-one (tells-le (count_with key_of k rows) cap)
         (tells-so (λ (h : n < cap). omega (arith, h, rows-many, count-with-missing key_of k rows (missing k i q)))
         (λ (h : count_with key_of k rows ≤ cap). omega (arith, h, rows-many, count-with-missing key_of k rows (missing k i q))) (tells-lt n cap))

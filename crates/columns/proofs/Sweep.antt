@@ -1,12 +1,12 @@
 -- Loops over sound columns: one that takes out what fails a test, and one that changes every row in its place.
 -- At each turn the rest of the work, done now, gives the goal: the laws of flat_map's sweeps, read through the columns.
+use Rattle.std.specs.Prelude.{Ok}
 use Prim.Native.Nat.{ℕ, ◌+◌, ◌-◌, ◌<◌, ◌≤◌}
 use mathlib.Core.Bool.{Bool, true, false}
 use mathlib.Core.List.{List, ◌∷◌, map}
 use mathlib.Core.Path.{◌≡◌, sym, ap, ◌∙◌, subst}
 use lib.ListN.{take, drop, get_or}
 use Rattle.standard.specs.Ordered.{keep}
-use Rattle.flat_map.specs.declared.Place.TheVariants.{Found}
 use Rattle.flat_map.specs.Seek.{place_of}
 use Rattle.flat_map.specs.Shift.{shift_out}
 use Rattle.flat_map.specs.Table.{Formed}
@@ -80,7 +80,7 @@ module _
           key-is : get_or ks i 0 ≡ key_of e
           key-is = sym (ap key_of q ∙ same (read (at i (ks ∷ cs))) ∙ c.own_key (at i (ks ∷ cs)) (m.sound.clean i))
 
-          place : Found i ≡ place_of (take n ks) (key_of e)
+          place : Ok i ≡ place_of (take n ks) (key_of e)
           place = rows.own-place cap width key_of blank read write Clean InRange c ks cs n m.sound i l ∙ ap (place_of (take n ks)) key-is
 
           turned : Changing cap g ks (entries read cap (ks ∷ cs₀)) n ks (entries read cap (ks ∷ sets i (drop 1 (write e)) cs)) n (i + 1)

@@ -2,7 +2,7 @@
 -- HEADER: FTYPE VERSION DISCOVER MCAST SECURITY SRCROUTE DESTIEEE SRCIEEE ENDDEV RESERVED DEST SOURCE RADIUS SEQ, two extended addresses and
 -- the multicast control that may be given, and a source route that may be given: its index and its relays.
 -- Assumes nothing.
-use Rattle.std.specs.Prelude.{ℕ, ◌+◌, min, cond, List, [], ◌∷◌, get_or}
+use Rattle.std.specs.Prelude.{ℕ, ◌+◌, min, cond, List, [], ◌∷◌, get_or, Option, Some, None}
 use Rattle.numbers.specs.Read.{number_at, byte_at, flag_at, nwk_at, eui64_at}
 use Rattle.child_arguments.specs.Arguments.{past}
 use Rattle.route_args.specs.Read.{relays_at}
@@ -11,12 +11,9 @@ use Rattle.frame.specs.declared.NwkFrameType.TheVariants.{Data, Command, Interpa
 use Rattle.frame.specs.declared.NwkRouteDiscovery.{NwkRouteDiscovery}
 use Rattle.frame.specs.declared.NwkRouteDiscovery.TheVariants.{Suppress, Enable, WithMulticast}
 use Rattle.frame.specs.declared.NwkFrameControl.{NwkFrameControl}
-use Rattle.frame.specs.declared.OptionalEui64.{OptionalEui64}
-use Rattle.frame.specs.declared.OptionalEui64.TheVariants as names
-use Rattle.frame.specs.declared.OptionalByte.{OptionalByte}
-use Rattle.frame.specs.declared.OptionalByte.TheVariants as bytes
 use Rattle.frame.specs.declared.NwkSourceRoute.{NwkSourceRoute}
 use Rattle.frame.specs.declared.NwkHeader.{NwkHeader}
+use Rattle.types.specs.declared.Eui64.{Eui64}
 
 -- the frame type of a number; 2 is no type and is kept out before
 abbrev pub frame_type_of : ℕ → NwkFrameType
@@ -39,11 +36,11 @@ control_at args i = record {
   reserved1 = byte_at args (i + 9);
 }
 
-abbrev pub optional_eui64_at : List ℕ → ℕ → OptionalEui64
-optional_eui64_at args i = cond (flag_at args i) (names.Present (eui64_at args (i + 1))) names.Absent
+abbrev pub optional_eui64_at : List ℕ → ℕ → Option Eui64
+optional_eui64_at args i = cond (flag_at args i) (Some (eui64_at args (i + 1))) None
 
-abbrev pub optional_byte_at : List ℕ → ℕ → OptionalByte
-optional_byte_at args i = cond (flag_at args i) (bytes.Present (byte_at args (i + 1))) bytes.Absent
+abbrev pub optional_byte_at : List ℕ → ℕ → Option ℕ
+optional_byte_at args i = cond (flag_at args i) (Some (byte_at args (i + 1))) None
 
 -- a source route after the number that says whether there is one; where there is none, nothing stands there
 abbrev pub route_at : List ℕ → ℕ → NwkSourceRoute

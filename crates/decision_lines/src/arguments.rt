@@ -7,7 +7,6 @@ ghost use Rattle.next_hop.specs.Numbers.{resolve_said, clear_said};
 
 use frame::NwkHeader;
 use hop_choice::{HostRoute, Policy, RouteDirective, SendKind};
-use neighbor_queries::Truth;
 use next_hop::{NextHop, ResolveOutcome, SendMode};
 use numbers::Answer;
 use relay_header::ClearOutcome;
@@ -25,7 +24,7 @@ pub fn kind(number: u64, hop: Nwk) -> SendKind
         SendKind::Route(RouteDirective::Force(HostRoute::NextHop(hop))),
         SendKind::Route(RouteDirective::Force(HostRoute::SourceRoute)),
     ];
-    let i = numbers::at_most(number as usize, 5);
+    let i = (number as usize).min(5);
     all[i]
 }
 
@@ -35,7 +34,7 @@ fn mode_length(number: u64, count: usize) -> usize
     ensures { result ≡ length_of number count }
 {
     let all: [usize; 6] = [1, 1, 2, 2 + count, 2, 2 + count];
-    let i = numbers::at_most(number as usize, 5);
+    let i = (number as usize).min(5);
     all[i]
 }
 
@@ -54,7 +53,7 @@ pub fn after_mode(args: &[u64], i: usize) -> usize
     requires { i < 8 }
     ensures { result ≡ past_mode args.now i }
 {
-    let count = numbers::at_most(numbers::at(args, i + 1) as usize, 80);
+    let count = (numbers::at(args, i + 1) as usize).min(80);
     let length = mode_length(numbers::at(args, i), count);
     i + length
 }
@@ -98,10 +97,10 @@ pub fn resolve_answer(o: ResolveOutcome) -> Answer
     let answer = o.answer;
     let header = o.header;
     match answer {
-        NextHop::Refused(why) => numbers::refused(why),
-        NextHop::Resolved(hop) => with_hop(hop, header),
-        NextHop::NeedDiscovery => with_header(1, header),
-        NextHop::Discard => with_header(2, header),
+        Err(why) => numbers::refused(why),
+        Ok(NextHop::Resolved(hop)) => with_hop(hop, header),
+        Ok(NextHop::NeedDiscovery) => with_header(1, header),
+        Ok(NextHop::Discard) => with_header(2, header),
     }
 }
 
@@ -111,7 +110,7 @@ pub fn clear_answer(o: ClearOutcome) -> Answer
     let answer = o.answer;
     let header = o.header;
     match answer {
-        Truth::Is(b) => with_header(numbers::flag_number(b), header),
-        Truth::Refused(why) => numbers::refused(why),
+        Ok(b) => with_header(numbers::flag_number(b), header),
+        Err(why) => numbers::refused(why),
     }
 }

@@ -4,11 +4,9 @@ ghost use Rattle.numbers.specs.Said.{pushed, pushed_all};
 ghost use Rattle.frame.specs.Numbers.{frame_type_number, discovery_number, name_numbers, byte_numbers, control_numbers, route_numbers, header_numbers};
 ghost use Rattle.decision_lines.specs.Header.{frame_type_of, discovery_of, control_at, optional_eui64_at, optional_byte_at, route_at, header_at};
 
-use frame::{
-    NwkFrameControl, NwkFrameType, NwkHeader, NwkRouteDiscovery, NwkSourceRoute, OptionalByte,
-    OptionalEui64,
-};
+use frame::{NwkFrameControl, NwkFrameType, NwkHeader, NwkRouteDiscovery, NwkSourceRoute};
 use numbers::Numbers;
+use types::Eui64;
 
 // The frame type of a number.
 fn frame_type(number: u64) -> NwkFrameType
@@ -20,7 +18,7 @@ fn frame_type(number: u64) -> NwkFrameType
         NwkFrameType::Command,
         NwkFrameType::Interpan,
     ];
-    let i = numbers::at_most(number as usize, 3);
+    let i = (number as usize).min(3);
     all[i]
 }
 
@@ -33,7 +31,7 @@ fn discovery(number: u64) -> NwkRouteDiscovery
         NwkRouteDiscovery::Enable,
         NwkRouteDiscovery::WithMulticast,
     ];
-    let i = numbers::at_most(number as usize, 2);
+    let i = (number as usize).min(2);
     all[i]
 }
 
@@ -66,26 +64,26 @@ fn control(args: &[u64], i: usize) -> NwkFrameControl
 }
 
 // An extended address that may be given, at a place.
-fn optional_eui64(args: &[u64], i: usize) -> OptionalEui64
+fn optional_eui64(args: &[u64], i: usize) -> Option<Eui64>
     requires { i < 256 }
     ensures { result ≡ optional_eui64_at args.now i }
 {
     if numbers::flag(args, i) {
-        OptionalEui64::Present(numbers::eui64(args, i + 1))
+        Some(numbers::eui64(args, i + 1))
     } else {
-        OptionalEui64::Absent
+        None
     }
 }
 
 // A byte that may be given, at a place.
-fn optional_byte(args: &[u64], i: usize) -> OptionalByte
+fn optional_byte(args: &[u64], i: usize) -> Option<u8>
     requires { i < 256 }
     ensures { result ≡ optional_byte_at args.now i }
 {
     if numbers::flag(args, i) {
-        OptionalByte::Present(numbers::byte(args, i + 1))
+        Some(numbers::byte(args, i + 1))
     } else {
-        OptionalByte::Absent
+        None
     }
 }
 
@@ -163,24 +161,24 @@ fn push_control(n: Numbers, control: NwkFrameControl) -> Numbers
     neighbor_values::push_byte(i, control.reserved1)
 }
 
-fn push_optional_eui64(n: Numbers, name: OptionalEui64) -> Numbers
+fn push_optional_eui64(n: Numbers, name: Option<Eui64>) -> Numbers
     ensures { result ≡ pushed_all n (name_numbers name) }
 {
     match name {
-        OptionalEui64::Absent => numbers::push(n, 0),
-        OptionalEui64::Present(eui64) => {
+        None => numbers::push(n, 0),
+        Some(eui64) => {
             let m = numbers::push(n, 1);
             neighbor_values::push_eui64(m, eui64)
         }
     }
 }
 
-fn push_optional_byte(n: Numbers, byte: OptionalByte) -> Numbers
+fn push_optional_byte(n: Numbers, byte: Option<u8>) -> Numbers
     ensures { result ≡ pushed_all n (byte_numbers byte) }
 {
     match byte {
-        OptionalByte::Absent => numbers::push(n, 0),
-        OptionalByte::Present(b) => {
+        None => numbers::push(n, 0),
+        Some(b) => {
             let m = numbers::push(n, 1);
             neighbor_values::push_byte(m, b)
         }

@@ -1,11 +1,11 @@
 -- The discovery table under the laws of columns: a well-formed table is its discoveries laid into columns, and discoveries that fit,
 -- laid into columns, are a well-formed table; the computed test tells it, and the place of a pair tells its row.
+use Rattle.std.specs.Prelude.{Option, Some, None, Ok, Err}
 use Prim.Native.Nat.{ℕ, zero, suc, ◌+◌, ◌<◌, ◌≤◌}
 use native.Mathlib.Nat.{le_of_suc-le-suc, not-suc-le-zero}
 use native.Mathlib.Omega.{arith}
 use mathlib.Core.Bool.{Bool, ◌&&◌}
 use mathlib.Core.List.{List, [], ◌∷◌, map}
-use mathlib.Core.Option.{Option, none, some}
 use mathlib.Core.Path.{◌≡◌, refl, sym, ap, ◌∙◌, subst}
 use lib.ListN.{length, take, drop, get_or, set}
 use Rattle.standard.specs.declared.DiscoveryEntry.{DiscoveryEntry}
@@ -14,7 +14,6 @@ use Rattle.standard.specs.Ordered.{lookup, put, remove, count_with, keep}
 use Rattle.standard.specs.Query.{entry_at}
 use Rattle.standard.specs.Tells.{Tells}
 use Rattle.standard.proofs.Tells.{tells_both, tells-so}
-use Rattle.flat_map.specs.declared.Place.TheVariants as place
 use Rattle.flat_map.specs.Seek.{place_of}
 use Rattle.flat_map.specs.Shift.{shift_in}
 use Rattle.flat_map.specs.Table.{Each, Rising, ZeroFrom}
@@ -30,9 +29,8 @@ use Rattle.columns.proofs.Places.{entries-length}
 use Rattle.columns.proofs.Rows as rows
 use Rattle.columns.proofs.Told.{ordered-told, under-told}
 use Rattle.columns.proofs.View as view
-use Rattle.discovery_table.specs.declared.DiscoveryLookup.TheVariants.{Found, Missing}
 use Rattle.discovery_table.specs.Codec.{word_end, key_end, discovery_word, discovery_numbers, discovery_in, discovery_of, Clean, InRange}
-use Rattle.discovery_table.specs.Table.{DiscoveryTable, in_columns, blank_discovery, WellFormed, well_formed, rows_of, table_of, Fits, Holds, looked}
+use Rattle.discovery_table.specs.Table.{DiscoveryTable, in_columns, blank_discovery, WellFormed, well_formed, rows_of, table_of, Fits, Holds}
 use Rattle.discovery_table.proofs.Codec.{codec}
 
 -- a well-formed table is sound columns, and back
@@ -120,22 +118,22 @@ module _ (t : DiscoveryTable) (w : WellFormed t) where
   }
 
   -- what the place of a key says of the rows
-  pub found-row : (k i : ℕ) → place.Found i ≡ place_of (take t.count t.keys) k → lookup discovery_key k (rows_of t) ≡ some (row i)
+  pub found-row : (k i : ℕ) → Ok i ≡ place_of (take t.count t.keys) k → lookup discovery_key k (rows_of t) ≡ Some (row i)
   found-row k i p = rows.found 32 3 discovery_key blank_discovery discovery_of discovery_numbers Clean InRange codec t.keys others t.count (table-sound t w) k i p
 
-  pub missing-row : (k i : ℕ) → place.Missing i ≡ place_of (take t.count t.keys) k → lookup discovery_key k (rows_of t) ≡ none
+  pub missing-row : (k i : ℕ) → Err i ≡ place_of (take t.count t.keys) k → lookup discovery_key k (rows_of t) ≡ None
   missing-row k i p = rows.missing 32 3 discovery_key blank_discovery discovery_of discovery_numbers Clean InRange codec t.keys others t.count (table-sound t w) k i p
 
-  pub place-within : (k i : ℕ) → place.Found i ≡ place_of (take t.count t.keys) k → i < t.count
+  pub place-within : (k i : ℕ) → Ok i ≡ place_of (take t.count t.keys) k → i < t.count
   place-within k i p = rows.found_below 32 3 discovery_key blank_discovery discovery_of discovery_numbers Clean InRange codec t.keys others t.count (table-sound t w) k i p
 
-  pub missing-within : (k i : ℕ) → place.Missing i ≡ place_of (take t.count t.keys) k → i ≤ t.count
+  pub missing-within : (k i : ℕ) → Err i ≡ place_of (take t.count t.keys) k → i ≤ t.count
   missing-within k i p =
       table.missing-within 32 discovery_key blank_discovery t.keys es t.count
       (rows.table 32 3 discovery_key blank_discovery discovery_of discovery_numbers Clean InRange codec t.keys others t.count (table-sound t w)) k i p
 
   -- a missing key whose row fits has a free place
-  pub room-left : (k i : ℕ) → place.Missing i ≡ place_of (take t.count t.keys) k → count_with discovery_key k (rows_of t) ≤ 32 → t.count < 32
+  pub room-left : (k i : ℕ) → Err i ≡ place_of (take t.count t.keys) k → count_with discovery_key k (rows_of t) ≤ 32 → t.count < 32
   room-left k i p h = omega (arith, h, many, count-with-missing discovery_key k (rows_of t) (missing-row k i p))
 
   -- the rows gone through one after the other
@@ -149,23 +147,23 @@ module _ (t : DiscoveryTable) (w : WellFormed t) where
   no_row i h = query.rest-done (rows_of t) i (omega (arith, many))
 
   -- the row at a place
-  pub entry-in-use : (i : ℕ) → i < t.count → entry_at i (rows_of t) ≡ some (row i)
+  pub entry-in-use : (i : ℕ) → i < t.count → entry_at i (rows_of t) ≡ Some (row i)
   entry-in-use i h =
       query.entry-in-use 32 discovery_key blank_discovery t.keys es t.count
       (rows.table 32 3 discovery_key blank_discovery discovery_of discovery_numbers Clean InRange codec t.keys others t.count (table-sound t w)) i h
-      ∙ ap some (row_reads i)
+      ∙ ap Some (row_reads i)
 
-  pub entry-not-in-use : (i : ℕ) → t.count ≤ i → entry_at i (rows_of t) ≡ none
+  pub entry-not-in-use : (i : ℕ) → t.count ≤ i → entry_at i (rows_of t) ≡ None
   entry-not-in-use i h = query.entry_past blank_discovery (rows_of t) i (omega (arith, many))
 
   -- a discovery over the one of its pair, or put in
-  pub set_holds : (e : DiscoveryEntry) → InRange e → (i : ℕ) → place.Found i ≡ place_of (take t.count t.keys) (discovery_key e)
+  pub set_holds : (e : DiscoveryEntry) → InRange e → (i : ℕ) → Ok i ≡ place_of (take t.count t.keys) (discovery_key e)
       → Holds (in_columns t.keys (set t.words i (discovery_word e)) (set t.ends i e.expiration_time) t.count) (put discovery_key e (rows_of t))
   set_holds e r i p =
       let x = rows.over-put 32 3 discovery_key blank_discovery discovery_of discovery_numbers Clean InRange codec t.keys others t.count (table-sound t w) e r i p in
       holds _ _ x.0 x.1
 
-  pub insert-holds : (e : DiscoveryEntry) → InRange e → (i : ℕ) → place.Missing i ≡ place_of (take t.count t.keys) (discovery_key e) → t.count < 32
+  pub insert-holds : (e : DiscoveryEntry) → InRange e → (i : ℕ) → Err i ≡ place_of (take t.count t.keys) (discovery_key e) → t.count < 32
       → Holds (in_columns (shift_in i (discovery_key e) t.keys) (shift_in i (discovery_word e) t.words) (shift_in i e.expiration_time t.ends) (t.count + 1)) (put discovery_key e (rows_of t))
   insert-holds e r i p h =
       let x = rows.in-put 32 3 discovery_key blank_discovery discovery_of discovery_numbers Clean InRange codec t.keys others t.count (table-sound t w) e r i p h in
@@ -197,10 +195,10 @@ module _ (xs : List DiscoveryEntry) (f : Fits xs) where
   fits-map g same r = record { fit = fits.fit-map 32 discovery_key blank_discovery xs f.fit g same; ranged = each_map InRange g r xs f.ranged }
 
 -- a look-up's answer, read back
-pub looked-found : (o : Option DiscoveryEntry) (e : DiscoveryEntry) → Found e ≡ looked o → o ≡ some e
-looked-found none e q = absurd (let z : ◌≡◌ {A = ℕ} 0 1 = cc in omega arith)
-looked-found (some x) e q = cc
+pub looked-found : (o : Option DiscoveryEntry) (e : DiscoveryEntry) → Some e ≡ o → o ≡ Some e
+looked-found None e q = absurd (let z : ◌≡◌ {A = ℕ} 0 1 = cc in omega arith)
+looked-found (Some x) e q = cc
 
-pub looked-missing : (o : Option DiscoveryEntry) → Missing ≡ looked o → o ≡ none
-looked-missing none q = refl
-looked-missing (some x) q = absurd (let z : ◌≡◌ {A = ℕ} 0 1 = cc in omega arith)
+pub looked-missing : (o : Option DiscoveryEntry) → None ≡ o → o ≡ None
+looked-missing None q = refl
+looked-missing (Some x) q = absurd (let z : ◌≡◌ {A = ℕ} 0 1 = cc in omega arith)

@@ -1,8 +1,7 @@
 -- The route discovery table: 32 places in three columns of numbers, keys, words and ends, ordered by source and request id, read as the
 -- discoveries that it holds. Document 01, "Capacities and clock": "discoveries 32"; "Well formed".
 -- Assumes nothing.
-use Rattle.std.specs.Prelude.{ℕ, Bool, ◌&&◌, List, [], ◌∷◌, map, ◌≡◌, length}
-use Rattle.std.proofs.Math.Option.{Option, none, some}
+use Rattle.std.specs.Prelude.{ℕ, Bool, ◌&&◌, List, [], ◌∷◌, map, ◌≡◌, length, Option, Some, None}
 use Rattle.standard.specs.declared.DiscoveryEntry.{DiscoveryEntry}
 use Rattle.standard.specs.Discovery.{discovery_key}
 use Rattle.standard.specs.Route.{nwk}
@@ -11,10 +10,6 @@ use Rattle.flat_map.specs.Table.{Each, Fit}
 use Rattle.columns.specs.Columns.{Ordered, ordered, Under, are_under}
 use Rattle.columns.specs.Table.{rows_in}
 use Rattle.discovery_table.specs.Codec.{discovery_of, discovery_word, word_end, key_end, InRange}
-use Rattle.discovery_table.specs.declared.DiscoveryLookup.{DiscoveryLookup}
-use Rattle.discovery_table.specs.declared.DiscoveryLookup.TheVariants.{Found, Missing}
-use Rattle.discovery_table.specs.declared.Deadline.{Deadline}
-use Rattle.discovery_table.specs.declared.Deadline.TheVariants.{At, None}
 
 pub record DiscoveryTable : Type 0 where
   pub keys : List ℕ
@@ -70,12 +65,7 @@ pub record Holds (t : DiscoveryTable) (xs : List DiscoveryEntry) : Type 0 where
   pub formed : WellFormed t
   pub rows : rows_of t ≡ xs
 
--- a look-up's answer
-abbrev pub looked : Option DiscoveryEntry → DiscoveryLookup
-looked none = Missing
-looked (some e) = Found e
-
 -- when the discovery found is over
-abbrev pub deadline_of : Option DiscoveryEntry → Deadline
-deadline_of none = None
-deadline_of (some e) = At e.expiration_time
+abbrev pub deadline_of : Option DiscoveryEntry → Option ℕ
+deadline_of None = None
+deadline_of (Some e) = Some e.expiration_time

@@ -2,32 +2,16 @@
 #![tactic(auto)]
 
 ghost use Rattle.std.specs.Prelude.{◌≡◌, ◌+◌, ◌*◌, ◌≤◌, ◌<◌, length, take, get_or};
-ghost use Rattle.flat_map.specs.declared.Place.TheVariants.{Found, Missing};
 ghost use Rattle.flat_map.specs.Seek.{place_of};
 ghost use Rattle.flat_map.specs.Shift.{shift_out};
 ghost use Rattle.standard.specs.Discovery.{pair_key, discovery_key, live, is_over, names, awaits};
 ghost use Rattle.standard.specs.Ordered.{lookup, put, count_with, keep};
 ghost use Rattle.standard.specs.Query.{first, some_fits, entry_at};
 ghost use Rattle.discovery_table.specs.Codec.{discovery_word, discovery_in};
-ghost use Rattle.discovery_table.specs.Table.{in_columns, WellFormed, well_formed, rows_of, Holds, looked, deadline_of};
+ghost use Rattle.discovery_table.specs.Table.{in_columns, WellFormed, well_formed, rows_of, Holds, deadline_of};
 
-use flat_map::Place;
 use standard::DiscoveryEntry;
 use types::Nwk;
-
-// What stands under a source and a request id, or in a place.
-#[derive(Drop)]
-pub enum DiscoveryLookup {
-    Found(DiscoveryEntry),
-    Missing,
-}
-
-// When a discovery is over, where there is one.
-#[derive(Drop)]
-pub enum Deadline {
-    At(u64),
-    None,
-}
 
 // A source and a request id as one number, in the order of the pair.
 pub fn pair_key(source: Nwk, id: u8) -> u32
@@ -89,12 +73,12 @@ pub fn well_formed(keys: &[u32], words: &[u64], ends: &[u64], count: usize) -> b
     if 32 < count {
         return false;
     }
-    let up = columns::rising32(keys, count);
-    let no_keys = columns::zero_from32(keys, count);
-    let no_words = columns::zero_from64(words, count);
-    let no_ends = columns::zero_from64(ends, count);
-    let pairs = columns::under32(keys, 16777216);
-    let small = columns::under64(words, 281474976710656);
+    let up = columns::rising(keys, count);
+    let no_keys = columns::zero_from(keys, count);
+    let no_words = columns::zero_from(words, count);
+    let no_ends = columns::zero_from(ends, count);
+    let pairs = columns::under(keys, 16777216);
+    let small = columns::under(words, 281474976710656);
     up & no_keys & no_words & no_ends & pairs & small
 }
 
@@ -106,12 +90,12 @@ pub fn place_of(
     count: usize,
     source: Nwk,
     id: u8,
-) -> Place
+) -> Result<usize, usize>
     requires { WellFormed (in_columns keys.now words.now ends.now count) }
     ensures { result ≡ place_of (take count keys.now) (pair_key source id) }
 {
     let key = pair_key(source, id);
-    columns::index32(keys, count, key)
+    columns::index_of(keys, count, key)
 }
 
 // The discovery in a place.
@@ -130,30 +114,36 @@ pub fn find(
     count: usize,
     source: Nwk,
     id: u8,
-) -> DiscoveryLookup
+) -> Option<DiscoveryEntry>
     requires { WellFormed (in_columns keys.now words.now ends.now count) }
-    ensures { result ≡ looked (lookup discovery_key (pair_key source id) (rows_of (in_columns keys.now words.now ends.now count))) }
+    ensures { result ≡ lookup discovery_key (pair_key source id) (rows_of (in_columns keys.now words.now ends.now count)) }
 {
     let place = place_of(keys, words, ends, count, source, id);
     match place {
-        Place::Found(i) => {
+        Ok(i) => {
             let e = entry_at(keys, words, ends, i);
-            DiscoveryLookup::Found(e)
+            Some(e)
         }
-        Place::Missing(_) => DiscoveryLookup::Missing,
+        Err(_) => None,
     }
 }
 
 // The discovery at a place in the order, and nothing from the count on.
-pub fn at(keys: &[u32], words: &[u64], ends: &[u64], count: usize, i: usize) -> DiscoveryLookup
+pub fn at(
+    keys: &[u32],
+    words: &[u64],
+    ends: &[u64],
+    count: usize,
+    i: usize,
+) -> Option<DiscoveryEntry>
     requires { WellFormed (in_columns keys.now words.now ends.now count) }
-    ensures { result ≡ looked (entry_at i (rows_of (in_columns keys.now words.now ends.now count))) }
+    ensures { result ≡ entry_at i (rows_of (in_columns keys.now words.now ends.now count)) }
 {
     if count <= i {
-        return DiscoveryLookup::Missing;
+        return None;
     }
     let e = entry_at(keys, words, ends, i);
-    DiscoveryLookup::Found(e)
+    Some(e)
 }
 
 // A discovery stored over the one of its pair, which stands in place i.
@@ -165,7 +155,7 @@ pub fn set_at(
     i: usize,
     e: DiscoveryEntry,
 )
-    requires { WellFormed (in_columns keys.now words.old ends.old count) × (Found i ≡ place_of (take count keys.now) (discovery_key e)) }
+    requires { WellFormed (in_columns keys.now words.old ends.old count) × (Ok i ≡ place_of (take count keys.now) (discovery_key e)) }
     ensures { Holds (in_columns keys.now words.new ends.new count)
         (put discovery_key e (rows_of (in_columns keys.now words.old ends.old count))) }
 {
@@ -183,16 +173,16 @@ pub fn insert_at(
     i: usize,
     e: DiscoveryEntry,
 )
-    requires { WellFormed (in_columns keys.old words.old ends.old count) × (Missing i ≡ place_of (take count keys.old) (discovery_key e)) × (count < 32) }
+    requires { WellFormed (in_columns keys.old words.old ends.old count) × (Err i ≡ place_of (take count keys.old) (discovery_key e)) × (count < 32) }
     ensures { Holds (in_columns keys.new words.new ends.new (count + 1))
         (put discovery_key e (rows_of (in_columns keys.old words.old ends.old count))) }
 {
     let w = word_of(e);
     let source = e.source_address;
     let key = pair_key(source, e.route_request_id);
-    columns::shift32(keys, i, key);
-    columns::shift64(words, i, w);
-    columns::shift64(ends, i, e.expiration_time);
+    columns::shift_in(keys, i, key);
+    columns::shift_in(words, i, w);
+    columns::shift_in(ends, i, e.expiration_time);
 }
 
 // A discovery at the place of its pair: over the one that is there, or put in. How many discoveries there are after it.
@@ -201,7 +191,7 @@ pub fn put_at(
     words: &mut [u64],
     ends: &mut [u64],
     count: usize,
-    place: Place,
+    place: Result<usize, usize>,
     e: DiscoveryEntry,
 ) -> usize
     requires { WellFormed (in_columns keys.old words.old ends.old count) × (place ≡ place_of (take count keys.old) (discovery_key e)) × (count_with discovery_key (discovery_key e) (rows_of (in_columns keys.old words.old ends.old count)) ≤ 32) }
@@ -209,11 +199,11 @@ pub fn put_at(
         (put discovery_key e (rows_of (in_columns keys.old words.old ends.old count))) }
 {
     match place {
-        Place::Found(i) => {
+        Ok(i) => {
             set_at(keys, words, ends, count, i, e);
             count
         }
-        Place::Missing(i) => {
+        Err(i) => {
             insert_at(keys, words, ends, count, i, e);
             count + 1
         }
@@ -227,9 +217,9 @@ pub fn remove_at(keys: &mut [u32], words: &mut [u64], ends: &mut [u64], i: usize
         × (words.new ≡ shift_out i 0 words.old)
         × (ends.new ≡ shift_out i 0 ends.old) }
 {
-    columns::out32(keys, i);
-    columns::out64(words, i);
-    columns::out64(ends, i);
+    columns::shift_out(keys, i, 0);
+    columns::shift_out(words, i, 0);
+    columns::shift_out(ends, i, 0);
 }
 
 // Whether the time of a discovery is over.
@@ -238,10 +228,8 @@ pub fn some_over(keys: &[u32], words: &[u64], ends: &[u64], count: usize, now_ms
     ensures { result ≡ some_fits (is_over now_ms) (rows_of (in_columns keys.now words.now ends.now count)) }
 {
     let mut over = false;
-    let mut i: usize = 0;
-    while i < count {
+    for i in 0..count {
         over = over | (ends[i] <= now_ms);
-        i += 1;
     }
     over
 }
@@ -260,6 +248,7 @@ pub fn keep_live(
 {
     let mut n = count;
     let mut i: usize = 0;
+    // `while`: a row that goes makes the rest shorter.
     while i < n {
         if now_ms < ends[i] {
             i += 1;
@@ -278,10 +267,8 @@ pub fn names(keys: &[u32], words: &[u64], ends: &[u64], count: usize, destinatio
 {
     let wanted = destination.0 as u64;
     let mut found = false;
-    let mut i: usize = 0;
-    while i < count {
+    for i in 0..count {
         found = found | (words[i] / 65536 % 65536 == wanted);
-        i += 1;
     }
     found
 }
@@ -300,10 +287,8 @@ pub fn awaited(
 {
     let wanted = destination.0 as u64;
     let mut found = false;
-    let mut i: usize = 0;
-    while i < count {
+    for i in 0..count {
         found = found | ((now_ms < ends[i]) & (words[i] / 65536 % 65536 == wanted));
-        i += 1;
     }
     found
 }
@@ -316,17 +301,15 @@ pub fn discovery_deadline(
     count: usize,
     destination: Nwk,
     now_ms: u64,
-) -> Deadline
+) -> Option<u64>
     requires { WellFormed (in_columns keys.now words.now ends.now count) }
     ensures { result ≡ deadline_of (first (awaits destination.0 now_ms) (rows_of (in_columns keys.now words.now ends.now count))) }
 {
-    let mut i: usize = 0;
-    while i < count {
+    for i in 0..count {
         let e = entry_at(keys, words, ends, i);
-        if (now_ms < e.expiration_time) & (e.destination_address.0 == destination.0) {
-            return Deadline::At(e.expiration_time);
+        if (now_ms < e.expiration_time) & (e.destination_address == destination) {
+            return Some(e.expiration_time);
         }
-        i += 1;
     }
-    Deadline::None
+    None
 }

@@ -1,5 +1,6 @@
 -- A call by value is refused where its state is not well formed and has its rule's outcome elsewhere; what it leaves of lent columns follows from
 -- either, whatever the counters are. What a call leaves, and what a question leaves, is one outcome only, and a refused call leaves all as it was.
+use Rattle.std.specs.Prelude.{Ok, Err}
 use Prim.Native.Nat.{ℕ, ◌<◌}
 use native.Mathlib.Omega.{arith}
 use mathlib.Core.List.{List}
@@ -22,7 +23,6 @@ use Rattle.search_tables.proofs.Packing.{holds-packed}
 use Rattle.routing.specs.declared.Routing.{Routing}
 use Rattle.routing.specs.State.{WellFormed, well_formed, formed_in, route_table, discovery_table, record_table, state_of}
 use Rattle.routing.proofs.State.{state-told, columns-told}
-use Rattle.routing.specs.declared.ToldAnswer.TheVariants as told
 use Rattle.door.specs.Places.{done_numbers, told_numbers}
 use Rattle.door.specs.Lent.{Counters, Reading, Says, Made, Asked, Stored}
 
@@ -139,5 +139,5 @@ pub done-keeps : Keeps done_numbers
 done-keeps a old p = refl
 
 pub told-keeps : Keeps told_numbers
-told-keeps (told.Refused why) old p = refl
-told-keeps (told.Told b) old p = absurd (omega arith)
+told-keeps (Err why) old p = refl
+told-keeps (Ok b) old p = absurd (omega arith)

@@ -12,8 +12,8 @@ ghost use Rattle.record_table.specs.Table as record_of;
 ghost use Rattle.routing.specs.State.{formed_in};
 ghost use Rattle.door.specs.Places.{update_places, done_status};
 
-use route_calls::RouteAnswer;
-use standard::{Status, Update};
+use standard::{RouteUpdate, Status};
+use types::Refusal;
 
 // What is returned for numbers that are no call: one is no value of its field. It is no refusal's number, and comes before any.
 pub const NO_CALL: u8 = 255;
@@ -56,17 +56,17 @@ pub struct UpdatePlaces {
 }
 
 // An update as the numbers of its places.
-pub fn update_places(update: Update) -> UpdatePlaces
+pub fn update_places(update: Option<RouteUpdate>) -> UpdatePlaces
     ensures { result ≡ update_places update }
 {
     match update {
-        Update::Same => UpdatePlaces {
+        None => UpdatePlaces {
             changed: 0,
             destination: 0,
             next_hop: 0,
             path_cost: 0,
         },
-        Update::Changed(u) => UpdatePlaces {
+        Some(u) => UpdatePlaces {
             changed: 1,
             destination: u.destination.0,
             next_hop: u.next_hop.0,
@@ -79,16 +79,16 @@ pub fn update_places(update: Update) -> UpdatePlaces
 pub fn flag(b: bool) -> u8
     ensures { result ≡ flag_number b }
 {
-    if b { 1 } else { 0 }
+    u8::from(b)
 }
 
 // The status of a call that is done or refused.
-pub fn done_status(answer: RouteAnswer) -> u8
+pub fn done_status(answer: Result<(), Refusal>) -> u8
     ensures { result ≡ done_status answer }
 {
     match answer {
-        RouteAnswer::Refused(why) => why.number(),
-        RouteAnswer::Done => 0,
+        Err(why) => why.number(),
+        Ok(()) => 0,
     }
 }
 
@@ -96,10 +96,5 @@ pub fn done_status(answer: RouteAnswer) -> u8
 pub fn status_number(status: Status) -> u8
     ensures { result ≡ status_number status }
 {
-    match status {
-        Status::Active => 0,
-        Status::DiscoveryUnderway => 1,
-        Status::DiscoveryFailed => 2,
-        Status::Inactive => 3,
-    }
+    status as u8
 }

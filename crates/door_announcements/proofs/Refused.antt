@@ -9,11 +9,11 @@ use Rattle.neighbors_kept.proofs.Refused.{process-parent-annce-refused}
 use Rattle.door.proofs.Lent.{Keeps, refused-made}
 use Rattle.door_neighbors.specs.Answers.{done_status}
 use Rattle.door_lists.specs.Lists.{names_out, children_out, given}
-use Rattle.door_lists.proofs.Refused.{written_keeps, back_by}
+use Rattle.door_lists.proofs.Refused.{list-keeps, back_by}
 use Rattle.door_announcements.specs.Announced.{BothPlaces, both_at, BothRoom, both_numbers, AnnceMade}
 
 both-keeps : Keeps both_numbers
-both-keeps x old p = written_keeps x.answer (both_at (names_out x.claimed) (children_out x.removed)) old p
+both-keeps x old p = list-keeps (λ (d : Unit {0}). both_at (names_out x.claimed) (children_out x.removed)) x.answer old p
 
 module _ (before after : Unit {0} → Neighbors) (r : ℕ) (p : 0 < r) (old new : BothPlaces) (room : BothRoom old) where
   pub annce-refused : (announced : List ℕ) → AnnceMade announced before after old new r → (c : Unit {0}) → (after c ≡ before c) × (new ≡ old)

@@ -6,11 +6,12 @@ ghost use Rattle.door_neighbors.specs.Lent.{lent};
 ghost use Rattle.door_lists.specs.Lists.{Places64, addresses_at, children_at};
 ghost use Rattle.door_announcements.specs.Announced.{both_lists, both_at, both_numbers, AnnceMade};
 
-use neighbor_queries::{Answer, ChildList, Eui64List};
+use neighbor_queries::{ChildList, Eui64List};
+use types::Refusal;
 
 // The numbers of an answer with both lists beside it.
 fn say_both(
-    answer: Answer,
+    answer: Result<(), Refusal>,
     claims: Eui64List,
     removed: ChildList,
     claimed_total: &mut usize,
@@ -26,12 +27,12 @@ fn say_both(
         result }
 {
     match answer {
-        Answer::Done => {
+        Ok(()) => {
             door_lists::write_names(claims, claimed_total, claimed);
             door_lists::write_children(removed, total, eui64s, addresses);
             0
         }
-        Answer::Refused(why) => why.number(),
+        Err(why) => why.number(),
     }
 }
 

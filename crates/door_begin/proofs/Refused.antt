@@ -1,12 +1,10 @@
 -- A refused call leaves the columns, the last id and the place: by value it hands the state back.
+use Rattle.std.specs.Prelude.{Result, Ok, Err}
 use Prim.Native.Nat.{ℕ, ◌<◌}
 use native.Mathlib.Omega.{arith}
 use mathlib.Core.Path.{◌≡◌, refl}
 use Rattle.types.specs.declared.Nwk.{Nwk}
-use Rattle.standard.specs.Tables.{Tables}
 use Rattle.standard.proofs.Picked.{by-test}
-use Rattle.route_begin.specs.declared.BeginAnswer.{BeginAnswer}
-use Rattle.route_begin.specs.declared.BeginAnswer.TheVariants.{Refused, Begun}
 use Rattle.route_begin.specs.Answer.{BeginStep, begun, advertised}
 use Rattle.routing.specs.declared.Routing.{Routing}
 use Rattle.routing.specs.declared.BeginOutcome.{BeginOutcome}
@@ -15,19 +13,20 @@ use Rattle.routing.specs.State.{well_formed, rows_in}
 use Rattle.door.specs.Lent.{Counters}
 use Rattle.door.proofs.Lent.{Keeps, refused-made}
 use Rattle.door_begin.specs.Begin.{begin_status, begin_numbers, BeginMade, AdvertiseMade}
+use Rattle.types.specs.declared.Refusal.{Refusal}
 
 begin-keeps : Keeps begin_numbers
-begin-keeps (Refused why) old p = refl
-begin-keeps (Begun i) old p = absurd (omega arith)
+begin-keeps (Err why) old p = refl
+begin-keeps (Ok i) old p = absurd (omega arith)
 
 abbrev Back : Routing → BeginOutcome → Type 0
 Back s o = 0 < begin_status o.answer → o.state ≡ s
 
 back : (s : Routing) (id : ℕ) (x : BeginStep) → Back s (begun_as s id x)
 back s id x = go x.answer where
-  go : (a : BeginAnswer) → Back s (begun_by a s id x.tables)
-  go (Refused why) p = refl
-  go (Begun i) p = absurd (omega arith)
+  go : (a : Result ℕ Refusal) → Back s (begun_by a s id x.tables)
+  go (Err why) p = refl
+  go (Ok i) p = absurd (omega arith)
 
 module _ (before after : Counters → Routing) (r : ℕ) (p : 0 < r) (own : Nwk) (now span old new : ℕ) where
   pub begin-refused : (destination : Nwk) → BeginMade before after own destination now span old new r → (c : Counters) → (after c ≡ before c) × (new ≡ old)

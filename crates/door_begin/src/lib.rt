@@ -5,16 +5,15 @@ ghost use Rattle.standard.specs.Route.{nwk};
 ghost use Rattle.door.specs.Lent.{lent_with, the_id};
 ghost use Rattle.door_begin.specs.Begin.{SaysBegun, BeginMade, AdvertiseMade};
 
-use route_begin::BeginAnswer;
-use types::Nwk;
+use types::{Nwk, Refusal};
 
 // The number of the answer, and the id as the last one if it was used.
-fn say_begun(answer: BeginAnswer, id: u8, last: &mut u8, request_id: &mut u8) -> u8
+fn say_begun(answer: Result<u8, Refusal>, id: u8, last: &mut u8, request_id: &mut u8) -> u8
     ensures { SaysBegun answer id last.old last.new request_id.old request_id.new result }
 {
     match answer {
-        BeginAnswer::Refused(why) => why.number(),
-        BeginAnswer::Begun(i) => {
+        Err(why) => why.number(),
+        Ok(i) => {
             *last = id;
             *request_id = i;
             0

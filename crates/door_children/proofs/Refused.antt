@@ -1,7 +1,7 @@
 -- A refused call leaves the columns and the places: by value it hands the state back.
+use Rattle.std.specs.Prelude.{Option, Some, None, Result, Ok, Err, Bool}
 use Prim.Native.Nat.{ℕ, ◌<◌, ◌≤◌}
 use native.Mathlib.Omega.{arith}
-use mathlib.Core.Option.{Option, none, some}
 use mathlib.Core.Path.{◌≡◌, refl}
 use Rattle.types.specs.declared.Nwk.{Nwk}
 use Rattle.types.specs.declared.Eui64.{Eui64}
@@ -10,11 +10,6 @@ use Rattle.standard.specs.Ordered.{lookup}
 use Rattle.standard.proofs.Picked.{by-test}
 use Rattle.neighbor_table.specs.declared.NeighborEntry.{NeighborEntry}
 use Rattle.neighbor_table.specs.Entry.{neighbor_key, is_child_of}
-use Rattle.neighbor_queries.specs.declared.Answer.{Answer}
-use Rattle.neighbor_queries.specs.declared.Answer.TheVariants as done
-use Rattle.neighbor_queries.specs.declared.NwkAnswer.{NwkAnswer}
-use Rattle.neighbor_queries.specs.declared.Truth.{Truth}
-use Rattle.neighbor_queries.specs.declared.Truth.TheVariants as truth
 use Rattle.children_moves_lent.specs.Rules.{take_answer}
 use Rattle.neighbors.specs.declared.Neighbors.{Neighbors}
 use Rattle.neighbors.specs.declared.Outcome.{Outcome}
@@ -29,24 +24,24 @@ use Rattle.door_neighbors.proofs.Lent.{done-keeps, truth-keeps, address-keeps}
 use Rattle.door_children.specs.Children.{maybe_name, maybe_address, child_of, IsChild, TruthMade, AddressMade, RefreshMade, UpsertMade}
 
 -- a call that hands the state back where its answer is a refusal
-truth-hands : (call : Neighbors → TruthOutcome) → ((s : Neighbors) (why : Refusal) → (call s).answer ≡ truth.Refused why → (call s).state ≡ s)
+truth-hands : (call : Neighbors → TruthOutcome) → ((s : Neighbors) (why : Refusal) → (call s).answer ≡ Err why → (call s).state ≡ s)
     → Hands truth_numbers (λ (x : TruthOutcome). x.answer) (λ (x : TruthOutcome). x.state) call
 truth-hands call back = record { back = λ s. go s (call s).answer refl } where
-  go : (s : Neighbors) (a : Truth) → (call s).answer ≡ a → 0 < truth_status a → (call s).state ≡ s
-  go s (truth.Is b) e p = absurd (omega arith)
-  go s (truth.Refused why) e p = back s why e
+  go : (s : Neighbors) (a : Result Bool Refusal) → (call s).answer ≡ a → 0 < truth_status a → (call s).state ≡ s
+  go s (Ok b) e p = absurd (omega arith)
+  go s (Err why) e p = back s why e
 
-done-hands : (call : Neighbors → Outcome) → ((s : Neighbors) (why : Refusal) → (call s).answer ≡ done.Refused why → (call s).state ≡ s)
+done-hands : (call : Neighbors → Outcome) → ((s : Neighbors) (why : Refusal) → (call s).answer ≡ Err why → (call s).state ≡ s)
     → Hands done_numbers (λ (x : Outcome). x.answer) (λ (x : Outcome). x.state) call
 done-hands call back = record { back = λ s. go s (call s).answer refl } where
-  go : (s : Neighbors) (a : Answer) → (call s).answer ≡ a → 0 < done_status a → (call s).state ≡ s
-  go s done.Done e p = absurd (omega arith)
-  go s (done.Refused why) e p = back s why e
+  go : (s : Neighbors) (a : Result Unit Refusal) → (call s).answer ≡ a → 0 < done_status a → (call s).state ≡ s
+  go s (Ok tt) e p = absurd (omega arith)
+  go s (Err why) e p = back s why e
 
 -- a child taken out is no refusal, and neither is one that is not there
 taken-done : (o : Option NeighborEntry) → address_status (take_answer o) ≡ 0
-taken-done none = refl
-taken-done (some e) = by-test (λ (a : NwkAnswer). address_status a ≡ 0) (is_child_of e.relationship) _ _ (λ _. refl) refl
+taken-done None = refl
+taken-done (Some e) = by-test (λ (a : Result (Option Nwk) Refusal). address_status a ≡ 0) (is_child_of e.relationship) _ _ (λ _. refl) refl
 
 module _ (before after : Unit {0} → Neighbors) (r : ℕ) (p : 0 < r) where
   pub refresh-refused : (named name addressed address now old new : ℕ) → named ≤ 1 → addressed ≤ 1 → RefreshMade before after named name addressed address now old new r

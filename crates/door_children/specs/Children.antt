@@ -2,12 +2,8 @@
 -- relationship are their numbers.
 -- Document 01, "How each place should look": "a definition gives this paper's number and values for each of its cases".
 -- Assumes nothing.
-use Rattle.std.specs.Prelude.{ℕ, ◌≤◌, cond, eqb}
+use Rattle.std.specs.Prelude.{ℕ, ◌≤◌, cond, eqb, Option, Some, None}
 use Rattle.neighbor_columns.specs.Kinds.{device_type_of, relationship_of}
-use Rattle.children.specs.declared.MaybeEui64.{MaybeEui64}
-use Rattle.children.specs.declared.MaybeEui64.TheVariants as names
-use Rattle.children.specs.declared.MaybeNwk.{MaybeNwk}
-use Rattle.children.specs.declared.MaybeNwk.TheVariants as addresses
 use Rattle.children.specs.declared.ChildDescriptor.{ChildDescriptor}
 use Rattle.neighbors.specs.declared.Neighbors.{Neighbors}
 use Rattle.neighbor_calls.specs.declared.TruthOutcome.{TruthOutcome}
@@ -17,6 +13,8 @@ use Rattle.door.specs.Lent.{Made, NotMade}
 use Rattle.door_neighbors.specs.declared.AddressPlaces.{AddressPlaces}
 use Rattle.door_neighbors.specs.Answers.{truth_numbers, address_numbers}
 use Rattle.door_neighbors.specs.Lent.{DoneMade}
+use Rattle.types.specs.declared.Nwk.{Nwk}
+use Rattle.types.specs.declared.Eui64.{Eui64}
 
 -- what a call leaves that is told yes or no, and one that is told a network address
 abbrev pub TruthMade : (Neighbors → TruthOutcome) → (Unit {0} → Neighbors) → (Unit {0} → Neighbors) → ℕ → ℕ → ℕ → Type 0
@@ -26,11 +24,11 @@ abbrev pub AddressMade : (Neighbors → NwkOutcome) → (Unit {0} → Neighbors)
 AddressMade call before after old new r = Made address_numbers (λ (x : NwkOutcome). x.answer) (λ (x : NwkOutcome). x.state) call before after old new r
 
 -- an address that is given where its flag is 1
-abbrev pub maybe_name : ℕ → ℕ → MaybeEui64
-maybe_name given n = cond (eqb given 1) (names.Given (record { 0 = n })) names.Absent
+abbrev pub maybe_name : ℕ → ℕ → Option Eui64
+maybe_name given n = cond (eqb given 1) (Some (record { 0 = n })) None
 
-abbrev pub maybe_address : ℕ → ℕ → MaybeNwk
-maybe_address given n = cond (eqb given 1) (addresses.Given (record { 0 = n })) addresses.Absent
+abbrev pub maybe_address : ℕ → ℕ → Option Nwk
+maybe_address given n = cond (eqb given 1) (Some (record { 0 = n })) None
 
 -- a flag is 0 or 1: what is given otherwise is no call, whatever the state
 pub record RefreshMade (before after : Unit {0} → Neighbors) (named name addressed address now old new r : ℕ) : Type 0 where

@@ -9,29 +9,21 @@ ghost use Rattle.door_neighbors.specs.Answers.{address_at};
 ghost use Rattle.door_neighbors.specs.Lent.{lent};
 ghost use Rattle.door_children.specs.Children.{maybe_name, maybe_address, child_of, IsChild, TruthMade, AddressMade, RefreshMade, UpsertMade};
 
-use children::{ChildDescriptor, MaybeEui64, MaybeNwk};
+use children::ChildDescriptor;
 use types::{Eui64, Nwk};
 
 // An extended address that is given where its flag is 1.
-fn maybe_name(given: u8, eui64: u64) -> MaybeEui64
+fn maybe_name(given: u8, eui64: u64) -> Option<Eui64>
     ensures { result ≡ maybe_name given eui64 }
 {
-    if given == 1 {
-        MaybeEui64::Given(Eui64(eui64))
-    } else {
-        MaybeEui64::Absent
-    }
+    if given == 1 { Some(Eui64(eui64)) } else { None }
 }
 
 // A network address that is given where its flag is 1.
-fn maybe_address(given: u8, nwk: u16) -> MaybeNwk
+fn maybe_address(given: u8, nwk: u16) -> Option<Nwk>
     ensures { result ≡ maybe_address given nwk }
 {
-    if given == 1 {
-        MaybeNwk::Given(Nwk(nwk))
-    } else {
-        MaybeNwk::Absent
-    }
+    if given == 1 { Some(Nwk(nwk)) } else { None }
 }
 
 // Whether a device type, a flag and a relationship are each the number of one.

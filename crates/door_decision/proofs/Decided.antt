@@ -1,5 +1,6 @@
 -- The choice on rows can be made, and what is made of it is the decision in every header that has the fields that are lent: of the header the choice read the
 -- number of a field, and of the host's relays how many there are.
+use Rattle.std.specs.Prelude.{Result}
 use Prim.Native.Nat.{ℕ}
 use mathlib.Core.Bool.{false}
 use mathlib.Core.List.{List}
@@ -24,8 +25,9 @@ use Rattle.door_records.specs.Records.{given}
 use Rattle.door_decision.specs.Header.{HeaderPlaces, Values, header_in}
 use Rattle.door_decision.proofs.Fields.{shut_by}
 use Rattle.door_decision.proofs.Routed.{given-count}
+use Rattle.types.specs.declared.Refusal.{Refusal}
 
-module _ (routes : List RouteEntry) (t : RecordTable) (store : List ℕ) (g : Together t store) (near : List NeighborEntry) (d : Nwk) (host : List ℕ) (policy : Policy) (kind : SendKind) (p : HeaderPlaces) (x : Choice) (e : x ≡ chosen routes t near d policy (length host) (eqb p.discovery 0) kind) where
+module _ (routes : List RouteEntry) (t : RecordTable) (store : List ℕ) (g : Together t store) (near : List NeighborEntry) (d : Nwk) (host : List ℕ) (policy : Policy) (kind : SendKind) (p : HeaderPlaces) (x : Result Choice Refusal) (e : x ≡ chosen routes t near d policy (length host) (eqb p.discovery 0) kind) where
   as-given : x ≡ chosen routes t near d policy (given host).count (eqb p.discovery 0) kind
   as-given = e ∙ ap (λ (n : ℕ). chosen routes t near d policy n (eqb p.discovery 0) kind) (sym (given-count host))
 

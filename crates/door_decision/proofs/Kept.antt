@@ -1,4 +1,5 @@
 -- The header that a caller keeps, with its fields as an answered decision left them, is the decision's own header, whatever its other fields are.
+use Rattle.std.specs.Prelude.{Result, Ok, Err}
 use Prim.Native.Nat.{ℕ}
 use mathlib.Core.List.{List}
 use mathlib.Core.Path.{◌≡◌, refl, ap, ◌∙◌}
@@ -11,7 +12,7 @@ use Rattle.frame.specs.declared.NwkHeader.{NwkHeader}
 use Rattle.frame.specs.Header.{source_routed}
 use Rattle.hop_choice.specs.declared.Policy.{Policy}
 use Rattle.next_hop.specs.declared.NextHop.{NextHop}
-use Rattle.next_hop.specs.declared.NextHop.TheVariants.{Refused, Resolved, NeedDiscovery, Discard}
+use Rattle.next_hop.specs.declared.NextHop.TheVariants.{Resolved, NeedDiscovery, Discard}
 use Rattle.next_hop.specs.declared.ResolveOutcome.{ResolveOutcome}
 use Rattle.next_hop.specs.declared.SendMode.{SendMode}
 use Rattle.next_hop.specs.Kept.{Shaped, kept, by-host, by-record}
@@ -20,6 +21,7 @@ use Rattle.door.specs.Lent.{Counters, Asked}
 use Rattle.door_decision.specs.Header.{HeaderPlaces, Values, header_in}
 use Rattle.door_decision.specs.Decision.{ResolvePlaces, resolve_places, resolve_numbers, routed_places, Unlent, sending, resolve_on}
 use Rattle.door_decision.proofs.Fields.{same-places}
+use Rattle.types.specs.declared.Refusal.{Refusal}
 
 module _ (to : Nwk) (old : ResolvePlaces) (v : Values old.header) (h : NwkHeader) where
   abbrev H : NwkHeader
@@ -29,11 +31,11 @@ module _ (to : Nwk) (old : ResolvePlaces) (v : Values old.header) (h : NwkHeader
   abbrev left : ResolveOutcome → NwkHeader
   left x = header_in to (resolve_numbers.places x old).header h
 
-  as-it-came : (a : NextHop) → header_in to (resolve_places a H old).header h ≡ H
-  as-it-came (Refused why) = refl
-  as-it-came (Resolved n) = ap (λ (p : HeaderPlaces). header_in to p h) (same-places to old.header v h)
-  as-it-came NeedDiscovery = ap (λ (p : HeaderPlaces). header_in to p h) (same-places to old.header v h)
-  as-it-came Discard = ap (λ (p : HeaderPlaces). header_in to p h) (same-places to old.header v h)
+  as-it-came : (a : Result NextHop Refusal) → header_in to (resolve_places a H old).header h ≡ H
+  as-it-came (Err why) = refl
+  as-it-came (Ok (Resolved n)) = ap (λ (p : HeaderPlaces). header_in to p h) (same-places to old.header v h)
+  as-it-came (Ok NeedDiscovery) = ap (λ (p : HeaderPlaces). header_in to p h) (same-places to old.header v h)
+  as-it-came (Ok Discard) = ap (λ (p : HeaderPlaces). header_in to p h) (same-places to old.header v h)
 
   by-route : (l : RelayList) → header_in to (routed_places l).header h ≡ source_routed H l
   by-route l = ap (λ (addresses : List Nwk). source_routed H (record { count = l.count; addresses = addresses })) (nwk-number l.addresses)

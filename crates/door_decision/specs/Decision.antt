@@ -1,7 +1,7 @@
 -- The numbers of a decision: a hop 0 and the hop, discovery needed 1, discard 2; and the fields of the header that it may change, as they are after it.
 -- Document 01, "How each place should look": "a definition gives this paper's number and values for each of its cases".
 -- Assumes nothing.
-use Rattle.std.specs.Prelude.{ℕ, ◌-◌, ◌≤◌, List, map, eqb}
+use Rattle.std.specs.Prelude.{ℕ, ◌-◌, ◌≤◌, List, map, eqb, Result, Ok, Err}
 use Rattle.types.specs.Refusal.{refusal_number}
 use Rattle.types.specs.declared.Nwk.{Nwk}
 use Rattle.standard.specs.declared.RelayList.{RelayList}
@@ -12,13 +12,14 @@ use Rattle.frame.specs.declared.NwkHeader.{NwkHeader}
 use Rattle.hop_choice.specs.declared.Policy.{Policy}
 use Rattle.next_hop.specs.declared.SendMode.{SendMode}
 use Rattle.next_hop.specs.declared.NextHop.{NextHop}
-use Rattle.next_hop.specs.declared.NextHop.TheVariants.{Refused, Resolved, NeedDiscovery, Discard}
+use Rattle.next_hop.specs.declared.NextHop.TheVariants.{Resolved, NeedDiscovery, Discard}
 use Rattle.next_hop.specs.declared.ResolveOutcome.{ResolveOutcome}
 use Rattle.next_hop.specs.Decision.{last_relay, resolve, resolve_default}
 use Rattle.decision_lines.specs.Arguments.{kind_of}
 use Rattle.door.specs.Lent.{Counters, Reading, Asked, NotAsked}
 use Rattle.door_records.specs.Records.{given}
 use Rattle.door_decision.specs.Header.{HeaderPlaces, header_at, Values, header_in, header_places}
+use Rattle.types.specs.declared.Refusal.{Refusal}
 
 pub record ResolvePlaces : Type 0 where
   pub header : HeaderPlaces
@@ -30,17 +31,17 @@ abbrev pub resolve_at : ℕ → ℕ → ℕ → ℕ → ℕ → List ℕ → ℕ
 resolve_at discovery bit has index count relays decision hop =
     record { header = header_at discovery bit has index count relays; decision = decision; hop = hop }
 
-abbrev pub resolve_status : NextHop → ℕ
-resolve_status (Refused why) = refusal_number why
-resolve_status (Resolved n) = 0
-resolve_status NeedDiscovery = 0
-resolve_status Discard = 0
+abbrev pub resolve_status : Result NextHop Refusal → ℕ
+resolve_status (Err why) = refusal_number why
+resolve_status (Ok (Resolved n)) = 0
+resolve_status (Ok NeedDiscovery) = 0
+resolve_status (Ok Discard) = 0
 
-abbrev pub resolve_places : NextHop → NwkHeader → ResolvePlaces → ResolvePlaces
-resolve_places (Refused why) h old = old
-resolve_places (Resolved n) h old = record { header = header_places h; decision = 0; hop = n.0 }
-resolve_places NeedDiscovery h old = record { header = header_places h; decision = 1; hop = 0 }
-resolve_places Discard h old = record { header = header_places h; decision = 2; hop = 0 }
+abbrev pub resolve_places : Result NextHop Refusal → NwkHeader → ResolvePlaces → ResolvePlaces
+resolve_places (Err why) h old = old
+resolve_places (Ok (Resolved n)) h old = record { header = header_places h; decision = 0; hop = n.0 }
+resolve_places (Ok NeedDiscovery) h old = record { header = header_places h; decision = 1; hop = 0 }
+resolve_places (Ok Discard) h old = record { header = header_places h; decision = 2; hop = 0 }
 
 abbrev pub resolve_numbers : Reading ResolveOutcome ResolvePlaces
 resolve_numbers = record { status = λ (x : ResolveOutcome). resolve_status x.answer; places = λ (x : ResolveOutcome). resolve_places x.answer x.header }

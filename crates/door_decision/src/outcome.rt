@@ -10,21 +10,15 @@ ghost use Rattle.door_decision.specs.Header.{header_at, Values, header_in};
 ghost use Rattle.door_decision.specs.Decision.{resolve_at, resolve_numbers, routed_places};
 
 use hop_choice::Choice;
+use types::Refusal;
 
 // The first relays of a list copied to the header's places, with 0 after them.
 fn copy_relays(from: &[u16], count: usize, relays: &mut [u16])
     requires { (count ≤ 32) × (count ≤ length from.now) × (length relays.old ≡ 32) }
     ensures { relays.new ≡ pad 32 0 (take count from.now) }
 {
-    let mut i: usize = 0;
-    while i < 32 {
-        if i < count {
-            relays[i] = from[i];
-        } else {
-            relays[i] = 0;
-        }
-        i += 1;
-    }
+    relays[..count].copy_from_slice(&from[..count]);
+    relays[count..].fill(0);
 }
 
 // A source route of the first relays of a list, set in the header's fields, and the hop to the last of them.
@@ -56,7 +50,7 @@ fn set_route(
 
 // The numbers of a choice. The relays of a record are read from its row of the store; those of the host are given.
 pub fn say_choice(
-    choice: Choice,
+    choice: Result<Choice, Refusal>,
     record_lengths: &[u8],
     store: &[u16],
     host_relays: &[u16],
@@ -79,13 +73,13 @@ pub fn say_choice(
         result }
 {
     match choice {
-        Choice::Refused(why) => why.number(),
-        Choice::Hop(n) => {
+        Err(why) => why.number(),
+        Ok(Choice::Hop(n)) => {
             *decision = 0;
             *next_hop = n.0;
             0
         }
-        Choice::ByRecord(i) => {
+        Ok(Choice::ByRecord(i)) => {
             let start = 32 * i;
             let known = record_lengths[i] as usize;
             set_route(
@@ -102,7 +96,7 @@ pub fn say_choice(
             );
             0
         }
-        Choice::ByHost => {
+        Ok(Choice::ByHost) => {
             set_route(
                 host_relays,
                 host_relays.len(),
@@ -117,12 +111,12 @@ pub fn say_choice(
             );
             0
         }
-        Choice::NeedDiscovery => {
+        Ok(Choice::NeedDiscovery) => {
             *decision = 1;
             *next_hop = 0;
             0
         }
-        Choice::Discard => {
+        Ok(Choice::Discard) => {
             *decision = 2;
             *next_hop = 0;
             0

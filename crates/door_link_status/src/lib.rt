@@ -50,16 +50,14 @@ fn command_given(
     ensures { result ≡ given first last addresses.now incoming.now outgoing.now }
 {
     let mut command = blank_command(first, last, addresses.len());
-    let end = numbers::at_most(addresses.len(), 31);
-    let mut i: usize = 0;
-    while i < end {
+    let end = addresses.len().min(31);
+    for i in 0..end {
         let status = LinkStatus {
             address: Nwk(addresses[i]),
             incoming_cost: incoming[i],
             outgoing_cost: outgoing[i],
         };
         command.statuses[i] = status;
-        i += 1;
     }
     command
 }

@@ -2,30 +2,29 @@
 -- with a list of children beside it.
 -- Document 01, "How each place should look": "a definition gives this paper's number and values for each of its cases".
 -- Assumes nothing.
-use Rattle.std.specs.Prelude.{ℕ}
-use Rattle.neighbor_queries.specs.declared.Answer.{Answer}
-use Rattle.neighbor_queries.specs.declared.Answer.TheVariants.{Done, Refused}
+use Rattle.std.specs.Prelude.{ℕ, Result, Ok, Err}
 use Rattle.neighbor_queries.specs.declared.ChildList.{ChildList}
-use Rattle.neighbor_queries.specs.declared.ChildrenAnswer.{ChildrenAnswer}
 use Rattle.neighbors.specs.declared.Neighbors.{Neighbors}
 use Rattle.door.specs.Lent.{Reading, Asked, NotAsked, Made, NotMade}
-use Rattle.door_neighbors.specs.Answers.{done_status}
 use Rattle.door_lists.specs.Lists.{ChildrenPlaces, children_out}
+use Rattle.types.specs.declared.Refusal.{Refusal}
+use Rattle.types.specs.Refusal.{refusal_number}
 
--- what the places hold after an answer that would write `out`
-abbrev pub written : {P : Type 0} → Answer → P → P → P
-written Done out old = out
-written (Refused why) out old = old
+-- what a call that answers lists has for a status
+abbrev pub list_status : {A : Type 0} → Result A Refusal → ℕ
+list_status (Ok x) = 0
+list_status (Err why) = refusal_number why
 
-abbrev pub children_numbers : Reading ChildrenAnswer ChildrenPlaces
-children_numbers = record {
-  status = λ (x : ChildrenAnswer). done_status x.answer;
-  places = λ (x : ChildrenAnswer). written x.answer (children_out x.list);
-}
+-- what the places hold after it, by what its lists write
+abbrev pub written : {A P : Type 0} → (A → P) → Result A Refusal → P → P
+written out (Ok x) old = out x
+written out (Err why) old = old
 
--- an answer with a list beside it
-abbrev pub children : Answer → ChildList → ChildrenAnswer
-children answer l = record { answer = answer; list = l }
+abbrev pub list_numbers : {A P : Type 0} → (A → P) → Reading (Result A Refusal) P
+list_numbers out = record { status = list_status; places = written out }
+
+abbrev pub children_numbers : Reading (Result ChildList Refusal) ChildrenPlaces
+children_numbers = list_numbers children_out
 
 -- lists go out to places that have room for them: with any others it is no call, whatever the state
 pub record ListsAsked {A P : Type 0} (Room : P → Type 0) (reading : Reading A P) (ask : Neighbors → A) (state : Unit {0} → Neighbors) (old new : P) (r : ℕ) : Type 0 where

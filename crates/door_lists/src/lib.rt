@@ -3,11 +3,12 @@
 
 ghost use Rattle.std.specs.Prelude.{◌≡◌};
 ghost use Rattle.door.specs.Lent.{Says};
-ghost use Rattle.door_lists.specs.Answers.{children_numbers, children};
+ghost use Rattle.neighbor_queries.specs.Answers.{with_list};
+ghost use Rattle.door_lists.specs.Answers.{children_numbers};
 ghost use Rattle.door_lists.specs.Lists.{Places64, addresses_at, names_out, addresses_out, children_at, children_out, statuses_at, statuses_out, given, filled};
 
-use neighbor_queries::{Answer, ChildList, Eui64List, LinkStatusList, NwkList};
-use types::Eui64;
+use neighbor_queries::{ChildList, Eui64List, LinkStatusList, NwkList};
+use types::{Eui64, Refusal};
 
 // Children written to their places, with 0 after them.
 pub fn write_children(list: ChildList, total: &mut usize, eui64s: &mut [u64], addresses: &mut [u16])
@@ -15,12 +16,10 @@ pub fn write_children(list: ChildList, total: &mut usize, eui64s: &mut [u64], ad
     ensures { children_at total.new eui64s.new addresses.new ≡ children_out list }
 {
     *total = list.count;
-    let mut i: usize = 0;
-    while i < 64 {
+    for i in 0..64 {
         let child = list.children[i];
         eui64s[i] = child.eui64.0;
         addresses[i] = child.network_address.0;
-        i += 1;
     }
 }
 
@@ -30,11 +29,9 @@ pub fn write_names(list: Eui64List, total: &mut usize, eui64s: &mut [u64])
     ensures { addresses_at total.new eui64s.new ≡ names_out list }
 {
     *total = list.count;
-    let mut i: usize = 0;
-    while i < 64 {
+    for i in 0..64 {
         let name = list.addresses[i];
         eui64s[i] = name.0;
-        i += 1;
     }
 }
 
@@ -44,11 +41,9 @@ pub fn write_addresses(list: NwkList, total: &mut usize, addresses: &mut [u16])
     ensures { addresses_at total.new addresses.new ≡ addresses_out list }
 {
     *total = list.count;
-    let mut i: usize = 0;
-    while i < 64 {
+    for i in 0..64 {
         let address = list.addresses[i];
         addresses[i] = address.0;
-        i += 1;
     }
 }
 
@@ -64,36 +59,34 @@ pub fn write_statuses(
     ensures { statuses_at total.new addresses.new incoming_costs.new outgoing_costs.new ≡ statuses_out list }
 {
     *total = list.count;
-    let mut i: usize = 0;
-    while i < 64 {
+    for i in 0..64 {
         let status = list.statuses[i];
         addresses[i] = status.address.0;
         incoming_costs[i] = status.incoming_cost;
         outgoing_costs[i] = status.outgoing_cost;
-        i += 1;
     }
 }
 
 // The numbers of an answer with children beside it.
 pub fn say_children(
-    answer: Answer,
+    answer: Result<(), Refusal>,
     list: ChildList,
     total: &mut usize,
     eui64s: &mut [u64],
     addresses: &mut [u16],
 ) -> u8
     requires { Places64 eui64s.old × Places64 addresses.old }
-    ensures { Says children_numbers (children answer list)
+    ensures { Says children_numbers (with_list answer list)
         (children_at total.old eui64s.old addresses.old)
         (children_at total.new eui64s.new addresses.new)
         result }
 {
     match answer {
-        Answer::Done => {
+        Ok(()) => {
             write_children(list, total, eui64s, addresses);
             0
         }
-        Answer::Refused(why) => why.number(),
+        Err(why) => why.number(),
     }
 }
 
@@ -110,11 +103,9 @@ pub fn names_given(numbers: &[u64]) -> Eui64List
 {
     let mut l = Eui64List::new();
     let n = places_filled(numbers.len());
-    let mut i: usize = 0;
-    while i < n {
+    for i in 0..n {
         let name = Eui64(numbers[i]);
         l.addresses[i] = name;
-        i += 1;
     }
     l.count = numbers.len();
     l

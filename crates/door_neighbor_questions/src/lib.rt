@@ -1,9 +1,8 @@
 // The questions that are asked of the neighbours, at the door for C. Columns are lent as `&[..]`, so that several threads may ask of one state at once.
 #![tactic(auto)]
 
-ghost use Rattle.std.specs.Prelude.{◌≡◌};
+ghost use Rattle.std.specs.Prelude.{◌≡◌, Ok};
 ghost use Rattle.standard.specs.LinkCost.{link_cost};
-ghost use Rattle.neighbor_queries.specs.Answers.{moment_in};
 ghost use Rattle.neighbors.specs.declared.Neighbors.{Neighbors};
 ghost use Rattle.neighbors.specs.Queries as ask;
 ghost use Rattle.door.specs.Lent.{Says, Asked};
@@ -11,8 +10,8 @@ ghost use Rattle.door_neighbors.specs.Answers.{name_at};
 ghost use Rattle.door_neighbors.specs.Lent.{lent, TruthAsked, NameAsked};
 ghost use Rattle.door_neighbor_questions.specs.Questions.{link_at, link_numbers, capability_at, capability_numbers, moment_at, moment_numbers, count_numbers};
 
-use neighbor_queries::{Capability, LinkAnswer, Moment};
-use types::{Eui64, Nwk};
+use neighbor_queries::{Capability, NeighborLink};
+use types::{Eui64, Nwk, Refusal};
 
 // The places of a radio link: whether there is one, the neighbour's extended address, and the cost of the link both ways.
 #[derive(Drop)]
@@ -40,7 +39,7 @@ pub struct MomentPlaces {
 
 // The numbers of a link.
 fn say_link(
-    answer: LinkAnswer,
+    answer: Result<Option<NeighborLink>, Refusal>,
     found: &mut u8,
     eui64: &mut u64,
     outgoing_cost: &mut u8,
@@ -49,27 +48,27 @@ fn say_link(
     ensures { Says link_numbers answer (link_at found.old eui64.old outgoing_cost.old incoming_cost.old) (link_at found.new eui64.new outgoing_cost.new incoming_cost.new) result }
 {
     match answer {
-        LinkAnswer::Is(l) => {
+        Ok(Some(l)) => {
             *found = 1;
             *eui64 = l.eui64.0;
             *outgoing_cost = l.outgoing_cost;
             *incoming_cost = l.incoming_cost;
             0
         }
-        LinkAnswer::Nothing => {
+        Ok(None) => {
             *found = 0;
             *eui64 = 0;
             *outgoing_cost = 0;
             *incoming_cost = 0;
             0
         }
-        LinkAnswer::Refused(why) => why.number(),
+        Err(why) => why.number(),
     }
 }
 
 // The numbers of what a neighbour can do.
 fn say_capability(
-    answer: Capability,
+    answer: Result<Option<Capability>, Refusal>,
     found: &mut u8,
     device_type: &mut u8,
     rx_on_when_idle: &mut u8,
@@ -77,36 +76,34 @@ fn say_capability(
     ensures { Says capability_numbers answer (capability_at found.old device_type.old rx_on_when_idle.old) (capability_at found.new device_type.new rx_on_when_idle.new) result }
 {
     match answer {
-        Capability::Is {
-            device_type: kind,
-            rx_on_when_idle: listens,
-        } => {
+        Ok(Some(able)) => {
+            let kind = able.device_type;
             *found = 1;
             *device_type = kind.number();
-            *rx_on_when_idle = door::flag(listens);
+            *rx_on_when_idle = door::flag(able.rx_on_when_idle);
             0
         }
-        Capability::Nothing => {
+        Ok(None) => {
             *found = 0;
             *device_type = 0;
             *rx_on_when_idle = 0;
             0
         }
-        Capability::Refused(why) => why.number(),
+        Err(why) => why.number(),
     }
 }
 
 // The numbers of a moment, as it is answered.
-fn say_moment(moment: Moment, found: &mut u8, time: &mut u64) -> u8
-    ensures { Says moment_numbers (moment_in moment) (moment_at found.old time.old) (moment_at found.new time.new) result }
+fn say_moment(moment: Option<u64>, found: &mut u8, time: &mut u64) -> u8
+    ensures { Says moment_numbers (Ok moment) (moment_at found.old time.old) (moment_at found.new time.new) result }
 {
     match moment {
-        Moment::At(at) => {
+        Some(at) => {
             *found = 1;
             *time = at;
             0
         }
-        Moment::Never => {
+        None => {
             *found = 0;
             *time = 0;
             0

@@ -8,7 +8,7 @@ ghost use Rattle.door.specs.Lent.{Asked};
 ghost use Rattle.door_neighbors.specs.Lent.{lent};
 ghost use Rattle.door_neighbor_rows.specs.Rows.{neighbor_at_places, quality_places, entry_places, no_places, neighbor_places, neighbor_numbers};
 
-use neighbor_table::{NeighborEntry, NeighborLookup, Quality};
+use neighbor_table::NeighborEntry;
 
 // The places of the quality at which a neighbour is heard: whether it is known, and the quality.
 #[derive(Drop)]
@@ -57,12 +57,12 @@ pub struct NeighborPlaces {
 }
 
 // A quality, as the numbers of its places.
-fn quality_places(quality: Quality) -> QualityPlaces
+fn quality_places(quality: Option<u8>) -> QualityPlaces
     ensures { result ≡ quality_places quality }
 {
     match quality {
-        Quality::Unknown => QualityPlaces { known: 0, lqa: 0 },
-        Quality::Known(lqa) => QualityPlaces { known: 1, lqa },
+        None => QualityPlaces { known: 0, lqa: 0 },
+        Some(lqa) => QualityPlaces { known: 1, lqa },
     }
 }
 
@@ -152,14 +152,13 @@ fn entry_places(e: NeighborEntry) -> NeighborPlaces
 }
 
 // What was looked up, as the numbers of its places.
-fn neighbor_places(x: NeighborLookup) -> NeighborPlaces
-    ensures { result ≡ neighbor_places x }
+fn neighbor_places(found: Option<NeighborEntry>) -> NeighborPlaces
+    ensures { result ≡ neighbor_places found }
 {
-    if !x.found {
-        return no_places();
+    match found {
+        Some(e) => entry_places(e),
+        None => no_places(),
     }
-    let e = x.entry;
-    entry_places(e)
 }
 
 // The neighbour at a place, in order of extended address, and nothing from the count on.

@@ -1,13 +1,11 @@
 -- The test of lent columns is that of the neighbours that they are, and tells that these are well formed. A refused call's answer keeps its places.
+use Rattle.std.specs.Prelude.{Some, None, Ok, Err}
 use Prim.Native.Nat.{◌<◌}
 use native.Mathlib.Omega.{arith}
 use mathlib.Core.Bool.{Bool, true}
 use mathlib.Core.Path.{◌≡◌, refl, sym, ◌∙◌}
 use Rattle.neighbor_columns.specs.Table as neighbours
 use Rattle.waiting_columns.specs.Table as waits
-use Rattle.neighbor_queries.specs.declared.Truth.TheVariants as truth
-use Rattle.neighbor_queries.specs.declared.Eui64Answer.TheVariants as name
-use Rattle.neighbor_queries.specs.declared.NwkAnswer.TheVariants as address
 use Rattle.neighbors.specs.declared.Neighbors.{Neighbors}
 use Rattle.neighbors.specs.State.{WellFormed, well_formed, formed_in, table_in, waiting_in, state_in}
 use Rattle.neighbors.proofs.State.{state-told, columns-told}
@@ -26,15 +24,15 @@ pub done-keeps : Keeps done_numbers
 done-keeps a old p = refl
 
 pub truth-keeps : Keeps truth_numbers
-truth-keeps (truth.Is b) old p = absurd (omega arith)
-truth-keeps (truth.Refused why) old p = refl
+truth-keeps (Ok b) old p = absurd (omega arith)
+truth-keeps (Err why) old p = refl
 
 pub name-keeps : Keeps name_numbers
-name-keeps (name.Is x) old p = absurd (omega arith)
-name-keeps name.Nothing old p = absurd (omega arith)
-name-keeps (name.Refused why) old p = refl
+name-keeps (Ok (Some x)) old p = absurd (omega arith)
+name-keeps (Ok None) old p = absurd (omega arith)
+name-keeps (Err why) old p = refl
 
 pub address-keeps : Keeps address_numbers
-address-keeps (address.Is x) old p = absurd (omega arith)
-address-keeps address.Nothing old p = absurd (omega arith)
-address-keeps (address.Refused why) old p = refl
+address-keeps (Ok (Some x)) old p = absurd (omega arith)
+address-keeps (Ok None) old p = absurd (omega arith)
+address-keeps (Err why) old p = refl

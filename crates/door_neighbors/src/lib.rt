@@ -8,7 +8,7 @@ ghost use Rattle.neighbors.specs.State.{formed_in};
 ghost use Rattle.door.specs.Lent.{Says};
 ghost use Rattle.door_neighbors.specs.Answers.{done_status, truth_numbers, name_at, name_numbers, address_at, address_numbers};
 
-use neighbor_queries::{Answer, Eui64Answer, NwkAnswer, Truth};
+use types::{Eui64, Nwk, Refusal};
 
 // The places of an extended address that there may be: whether there is one, and the address.
 #[derive(Drop)]
@@ -52,62 +52,62 @@ pub fn columns_formed(
 }
 
 // The status of a call that is done or refused.
-pub fn done_status(answer: Answer) -> u8
+pub fn done_status(answer: Result<(), Refusal>) -> u8
     ensures { result ≡ done_status answer }
 {
     match answer {
-        Answer::Done => 0,
-        Answer::Refused(why) => why.number(),
+        Ok(()) => 0,
+        Err(why) => why.number(),
     }
 }
 
 // The numbers of a yes or a no.
-pub fn say_truth(answer: Truth, told: &mut u8) -> u8
+pub fn say_truth(answer: Result<bool, Refusal>, told: &mut u8) -> u8
     ensures { Says truth_numbers answer told.old told.new result }
 {
     match answer {
-        Truth::Is(b) => {
+        Ok(b) => {
             *told = door::flag(b);
             0
         }
-        Truth::Refused(why) => why.number(),
+        Err(why) => why.number(),
     }
 }
 
 // The numbers of an extended address that there may be.
-pub fn say_name(answer: Eui64Answer, found: &mut u8, eui64: &mut u64) -> u8
+pub fn say_name(answer: Result<Option<Eui64>, Refusal>, found: &mut u8, eui64: &mut u64) -> u8
     ensures { Says name_numbers answer (name_at found.old eui64.old) (name_at found.new eui64.new) result }
 {
     match answer {
-        Eui64Answer::Is(x) => {
+        Ok(Some(x)) => {
             *found = 1;
             *eui64 = x.0;
             0
         }
-        Eui64Answer::Nothing => {
+        Ok(None) => {
             *found = 0;
             *eui64 = 0;
             0
         }
-        Eui64Answer::Refused(why) => why.number(),
+        Err(why) => why.number(),
     }
 }
 
 // The numbers of a network address that there may be.
-pub fn say_address(answer: NwkAnswer, found: &mut u8, nwk: &mut u16) -> u8
+pub fn say_address(answer: Result<Option<Nwk>, Refusal>, found: &mut u8, nwk: &mut u16) -> u8
     ensures { Says address_numbers answer (address_at found.old nwk.old) (address_at found.new nwk.new) result }
 {
     match answer {
-        NwkAnswer::Is(x) => {
+        Ok(Some(x)) => {
             *found = 1;
             *nwk = x.0;
             0
         }
-        NwkAnswer::Nothing => {
+        Ok(None) => {
             *found = 0;
             *nwk = 0;
             0
         }
-        NwkAnswer::Refused(why) => why.number(),
+        Err(why) => why.number(),
     }
 }

@@ -4,14 +4,14 @@
 ghost use Rattle.std.specs.Prelude.{◌≡◌};
 ghost use Rattle.standard.specs.Route.{nwk};
 ghost use Rattle.routing.specs.declared.Routing.{Routing};
-ghost use Rattle.routing.specs.Queries.{hop_outcome, next_hop_of, route_status, discovery_deadline, route_count, discovery_count, check_tables};
+ghost use Rattle.routing.specs.Queries.{next_hop_of, route_status, discovery_deadline, route_count, discovery_count, check_tables};
 ghost use Rattle.routing.specs.Records.{record_count};
 ghost use Rattle.door.specs.Lent.{lent, Says, Asked};
 ghost use Rattle.door_queries.specs.Questions.{hop_at, hop_numbers, status_at, status_places, status_numbers, deadline_at, deadline_places, deadline_numbers, count_numbers, check_at, check_places, check_numbers};
 
-use discovery_table::Deadline;
-use route_calls::{Checked, HopAnswer, StatusAnswer};
-use types::Nwk;
+use route_calls::Checked;
+use standard::Status;
+use types::{Nwk, Refusal};
 
 // The places of a next hop: whether there is one, and the hop.
 #[derive(Drop)]
@@ -42,34 +42,34 @@ pub struct CheckPlaces {
 }
 
 // The numbers of a hop that the route table names: one that is not known is refusal 6.
-fn say_hop(hop: HopAnswer, found: &mut u8, next_hop: &mut u16) -> u8
-    ensures { Says hop_numbers (hop_outcome hop) (hop_at found.old next_hop.old) (hop_at found.new next_hop.new) result }
+fn say_hop(hop: Result<Option<Nwk>, Refusal>, found: &mut u8, next_hop: &mut u16) -> u8
+    ensures { Says hop_numbers hop (hop_at found.old next_hop.old) (hop_at found.new next_hop.new) result }
 {
     match hop {
-        HopAnswer::NoRoute => {
+        Ok(None) => {
             *found = 0;
             *next_hop = 0;
             0
         }
-        HopAnswer::Hop(n) => {
+        Ok(Some(n)) => {
             *found = 1;
             *next_hop = n.0;
             0
         }
-        HopAnswer::Unknown => 6,
+        Err(why) => why.number(),
     }
 }
 
 // A route's status, as the numbers of its places.
-fn status_places(answer: StatusAnswer) -> StatusPlaces
+fn status_places(answer: Option<Status>) -> StatusPlaces
     ensures { result ≡ status_places answer }
 {
     match answer {
-        StatusAnswer::Absent => StatusPlaces {
+        None => StatusPlaces {
             found: 0,
             status: 0,
         },
-        StatusAnswer::Is(s) => StatusPlaces {
+        Some(s) => StatusPlaces {
             found: 1,
             status: door::status_number(s),
         },
@@ -77,12 +77,12 @@ fn status_places(answer: StatusAnswer) -> StatusPlaces
 }
 
 // A deadline, as the numbers of its places.
-fn deadline_places(deadline: Deadline) -> DeadlinePlaces
+fn deadline_places(deadline: Option<u64>) -> DeadlinePlaces
     ensures { result ≡ deadline_places deadline }
 {
     match deadline {
-        Deadline::None => DeadlinePlaces { found: 0, time: 0 },
-        Deadline::At(time) => DeadlinePlaces { found: 1, time },
+        None => DeadlinePlaces { found: 0, time: 0 },
+        Some(time) => DeadlinePlaces { found: 1, time },
     }
 }
 

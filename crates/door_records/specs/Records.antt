@@ -1,15 +1,13 @@
 -- The numbers of the answers of the calls on route records: whether the record changed what is known, and whether there was one to remove.
 -- Document 01, "How each place should look": "a definition gives this paper's number and values for each of its cases".
 -- Assumes nothing.
-use Rattle.std.specs.Prelude.{ℕ, List, map}
+use Rattle.std.specs.Prelude.{ℕ, List, map, Result, Ok, Err, Bool}
 use Rattle.types.specs.Refusal.{refusal_number}
 use Rattle.types.specs.declared.Nwk.{Nwk}
 use Rattle.numbers.specs.Said.{flag_number}
 use Rattle.standard.specs.declared.RelayList.{RelayList}
 use Rattle.standard.specs.Route.{nwk}
 use Rattle.relay_store.specs.Store.{relay_list}
-use Rattle.route_record.specs.declared.RecordAnswer.{RecordAnswer}
-use Rattle.route_record.specs.declared.RecordAnswer.TheVariants.{Refused, Stored}
 use Rattle.routing.specs.declared.Routing.{Routing}
 use Rattle.routing.specs.declared.RecordOutcome.{RecordOutcome}
 use Rattle.routing.specs.declared.ToldOutcome.{ToldOutcome}
@@ -17,20 +15,21 @@ use Rattle.routing.specs.Records.{store_route_record, store_after_record, remove
 use Rattle.door.specs.Lent.{Counters, Reading}
 use Rattle.door.specs.Lent as lent
 use Rattle.door.specs.Places.{told_numbers}
+use Rattle.types.specs.declared.Refusal.{Refusal}
 
 -- relays that are given, as many as there are numbers: a list of more than 32 is refused by its count
 abbrev pub given : List ℕ → RelayList
 given relays = relay_list (map nwk relays)
 
-abbrev pub record_status : RecordAnswer → ℕ
-record_status (Refused why) = refusal_number why
-record_status (Stored b) = 0
+abbrev pub record_status : Result Bool Refusal → ℕ
+record_status (Err why) = refusal_number why
+record_status (Ok b) = 0
 
-abbrev pub record_place : RecordAnswer → ℕ → ℕ
-record_place (Refused why) old = old
-record_place (Stored b) old = flag_number b
+abbrev pub record_place : Result Bool Refusal → ℕ → ℕ
+record_place (Err why) old = old
+record_place (Ok b) old = flag_number b
 
-abbrev pub record_numbers : Reading RecordAnswer ℕ
+abbrev pub record_numbers : Reading (Result Bool Refusal) ℕ
 record_numbers = record { status = record_status; places = record_place }
 
 abbrev pub RecordMade : (Counters → Routing) → (Counters → Routing) → Nwk → List ℕ → List ℕ → List ℕ → ℕ → ℕ → ℕ → Type 0

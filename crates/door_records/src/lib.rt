@@ -8,9 +8,8 @@ ghost use Rattle.standard.specs.Route.{nwk};
 ghost use Rattle.door.specs.Lent.{lent, Says};
 ghost use Rattle.door_records.specs.Records.{given, record_numbers, RecordMade};
 
-use route_record::RecordAnswer;
 use standard::RelayList;
-use types::Nwk;
+use types::{Nwk, Refusal};
 
 // Relays that are given, as a list of addresses.
 fn relays_given(relays: &[u16]) -> RelayList
@@ -18,23 +17,21 @@ fn relays_given(relays: &[u16]) -> RelayList
     ensures { result ≡ given relays.now }
 {
     let mut l = relay_store::no_relays();
-    let mut i: usize = 0;
-    while i < relays.len() {
-        let a = Nwk(relays[i]);
+    for (i, n) in relays.iter().enumerate() {
+        let a = Nwk(*n);
         l.addresses[i] = a;
-        i += 1;
     }
     l.count = relays.len();
     l
 }
 
 // The number of the answer of a route record.
-fn say_record(answer: RecordAnswer, changed: &mut u8) -> u8
+fn say_record(answer: Result<bool, Refusal>, changed: &mut u8) -> u8
     ensures { Says record_numbers answer changed.old changed.new result }
 {
     match answer {
-        RecordAnswer::Refused(why) => why.number(),
-        RecordAnswer::Stored(b) => {
+        Err(why) => why.number(),
+        Ok(b) => {
             *changed = door::flag(b);
             0
         }

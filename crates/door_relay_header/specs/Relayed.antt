@@ -3,17 +3,16 @@
 -- header h, in which what is lent takes the place of h's own.
 -- Document 01, "How each place should look": "a definition gives this paper's number and values for each of its cases".
 -- Assumes nothing.
-use Rattle.std.specs.Prelude.{ℕ, ◌≤◌, eqb}
+use Rattle.std.specs.Prelude.{ℕ, ◌≤◌, eqb, Result, Ok, Err, Bool}
 use Rattle.types.specs.declared.Nwk.{Nwk}
 use Rattle.numbers.specs.Said.{flag_number}
-use Rattle.neighbor_queries.specs.declared.Truth.{Truth}
-use Rattle.neighbor_queries.specs.declared.Truth.TheVariants.{Is, Refused}
 use Rattle.neighbors.specs.declared.Neighbors.{Neighbors}
 use Rattle.frame.specs.declared.NwkHeader.{NwkHeader}
 use Rattle.relay_header.specs.declared.ClearOutcome.{ClearOutcome}
 use Rattle.relay_header.specs.Relayed.{cleared}
 use Rattle.door.specs.Lent.{Reading, Asked, NotAsked}
 use Rattle.door_neighbors.specs.Answers.{truth_status}
+use Rattle.types.specs.declared.Refusal.{Refusal}
 
 -- the header h with what is lent
 abbrev pub header_in : Nwk → ℕ → ℕ → ℕ → NwkHeader → NwkHeader
@@ -49,9 +48,9 @@ pub record ClearPlaces : Type 0 where
 abbrev pub clear_at : ℕ → ℕ → ClearPlaces
 clear_at bit cleared = record { bit = bit; cleared = cleared }
 
-abbrev pub clear_places : Truth → NwkHeader → ClearPlaces → ClearPlaces
-clear_places (Is b) h old = clear_at (flag_number h.frame_control.end_device_initiator) (flag_number b)
-clear_places (Refused why) h old = old
+abbrev pub clear_places : Result Bool Refusal → NwkHeader → ClearPlaces → ClearPlaces
+clear_places (Ok b) h old = clear_at (flag_number h.frame_control.end_device_initiator) (flag_number b)
+clear_places (Err why) h old = old
 
 abbrev pub clear_numbers : Reading ClearOutcome ClearPlaces
 clear_numbers = record { status = λ (x : ClearOutcome). truth_status x.answer; places = λ (x : ClearOutcome). clear_places x.answer x.header }

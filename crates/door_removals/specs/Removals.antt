@@ -1,18 +1,20 @@
 -- The numbers of the calls that remove children: those that went.
 -- Document 01, "How each place should look": "a definition gives this paper's number and values for each of its cases".
 -- Assumes nothing.
-use Rattle.std.specs.Prelude.{ℕ, List}
-use Rattle.neighbor_queries.specs.declared.ChildrenAnswer.{ChildrenAnswer}
+use Rattle.std.specs.Prelude.{ℕ, List, Result}
+use Rattle.types.specs.declared.Refusal.{Refusal}
+use Rattle.neighbor_queries.specs.declared.ChildList.{ChildList}
+use Rattle.neighbor_queries.specs.Answers.{with_list}
 use Rattle.neighbors.specs.declared.Neighbors.{Neighbors}
 use Rattle.neighbor_calls.specs.declared.Removal.{Removal}
 use Rattle.neighbor_calls.specs.Children.{evict_timed_out_children}
 use Rattle.neighbor_calls.specs.Announcements.{remove_claimed_children}
-use Rattle.door_lists.specs.Answers.{children_numbers, children, ListsMade}
+use Rattle.door_lists.specs.Answers.{children_numbers, ListsMade}
 use Rattle.door_lists.specs.Lists.{ChildrenPlaces, ChildrenRoom, given}
 
 -- what a removal is answered beside the next state
-abbrev pub removal_answer : Removal → ChildrenAnswer
-removal_answer x = children x.answer x.removed
+abbrev pub removal_answer : Removal → Result ChildList Refusal
+removal_answer x = with_list x.answer x.removed
 
 abbrev pub RemovalMade : (Neighbors → Removal) → (Unit {0} → Neighbors) → (Unit {0} → Neighbors) → ChildrenPlaces → ChildrenPlaces → ℕ → Type 0
 RemovalMade rule before after old new r = ListsMade ChildrenRoom children_numbers removal_answer (λ (x : Removal). x.state) rule before after old new r

@@ -1,21 +1,16 @@
 -- The numbers of the route and of the discovery at a place: whether there is one, and its fields.
 -- Document 01, "How each place should look": "a definition gives this paper's number and values for each of its cases".
 -- Assumes nothing.
-use Rattle.std.specs.Prelude.{ℕ}
+use Rattle.std.specs.Prelude.{ℕ, Option, Some, None, Result, Ok, Err}
 use Rattle.types.specs.Refusal.{refusal_number}
 use Rattle.numbers.specs.Said.{flag_number}
 use Rattle.standard.specs.Numbers.{status_number}
-use Rattle.route_table.specs.declared.RouteLookup.{RouteLookup}
-use Rattle.route_table.specs.declared.RouteLookup.TheVariants as route
-use Rattle.discovery_table.specs.declared.DiscoveryLookup.{DiscoveryLookup}
-use Rattle.discovery_table.specs.declared.DiscoveryLookup.TheVariants as discovery
-use Rattle.routing.specs.declared.RouteAtOutcome.{RouteAtOutcome}
-use Rattle.routing.specs.declared.RouteAtOutcome.TheVariants as RouteAtOutcome
-use Rattle.routing.specs.declared.DiscoveryAtOutcome.{DiscoveryAtOutcome}
-use Rattle.routing.specs.declared.DiscoveryAtOutcome.TheVariants as DiscoveryAtOutcome
 use Rattle.door.specs.Lent.{Reading}
 use Rattle.door_rows.specs.declared.RoutePlaces.{RoutePlaces}
 use Rattle.door_rows.specs.declared.DiscoveryPlaces.{DiscoveryPlaces}
+use Rattle.types.specs.declared.Refusal.{Refusal}
+use Rattle.standard.specs.declared.RouteEntry.{RouteEntry}
+use Rattle.standard.specs.declared.DiscoveryEntry.{DiscoveryEntry}
 
 -- a route: destination, status, no route cache, many to one, record required, expired, hop, cost, total and recent use
 abbrev pub route_at_places : ℕ → ℕ → ℕ → ℕ → ℕ → ℕ → ℕ → ℕ → ℕ → ℕ → ℕ → RoutePlaces
@@ -33,20 +28,20 @@ route_at_places found destination status cache many required expired hop cost to
   recent_activity = recent;
 }
 
-abbrev pub route_places : RouteLookup → RoutePlaces
-route_places route.Missing = route_at_places 0 0 0 0 0 0 0 0 0 0 0
-route_places (route.Found e) =
+abbrev pub route_places : Option RouteEntry → RoutePlaces
+route_places None = route_at_places 0 0 0 0 0 0 0 0 0 0 0
+route_places (Some e) =
     route_at_places 1 e.destination.0 (status_number e.status) (flag_number e.no_route_cache) (flag_number e.many_to_one) (flag_number e.route_record_required) (flag_number e.expired) e.next_hop_address.0 e.path_cost e.total_usage_count e.recent_activity
 
-abbrev pub route_said : RouteAtOutcome → ℕ
-route_said (RouteAtOutcome.Refused why) = refusal_number why
-route_said (RouteAtOutcome.Answered x) = 0
+abbrev pub route_said : Result (Option RouteEntry) Refusal → ℕ
+route_said (Err why) = refusal_number why
+route_said (Ok x) = 0
 
-abbrev pub route_held : RouteAtOutcome → RoutePlaces → RoutePlaces
-route_held (RouteAtOutcome.Refused why) old = old
-route_held (RouteAtOutcome.Answered x) old = route_places x
+abbrev pub route_held : Result (Option RouteEntry) Refusal → RoutePlaces → RoutePlaces
+route_held (Err why) old = old
+route_held (Ok x) old = route_places x
 
-abbrev pub route_numbers : Reading RouteAtOutcome RoutePlaces
+abbrev pub route_numbers : Reading (Result (Option RouteEntry) Refusal) RoutePlaces
 route_numbers = record { status = route_said; places = route_held }
 
 -- a discovery: source, id, sender, forward and residual cost, when it is over, destination
@@ -62,18 +57,18 @@ discovery_at_places found source id sender forward residual end destination = re
   destination_address = destination;
 }
 
-abbrev pub discovery_places : DiscoveryLookup → DiscoveryPlaces
-discovery_places discovery.Missing = discovery_at_places 0 0 0 0 0 0 0 0
-discovery_places (discovery.Found e) =
+abbrev pub discovery_places : Option DiscoveryEntry → DiscoveryPlaces
+discovery_places None = discovery_at_places 0 0 0 0 0 0 0 0
+discovery_places (Some e) =
     discovery_at_places 1 e.source_address.0 e.route_request_id e.sender_address.0 e.forward_cost e.residual_cost e.expiration_time e.destination_address.0
 
-abbrev pub discovery_said : DiscoveryAtOutcome → ℕ
-discovery_said (DiscoveryAtOutcome.Refused why) = refusal_number why
-discovery_said (DiscoveryAtOutcome.Answered x) = 0
+abbrev pub discovery_said : Result (Option DiscoveryEntry) Refusal → ℕ
+discovery_said (Err why) = refusal_number why
+discovery_said (Ok x) = 0
 
-abbrev pub discovery_held : DiscoveryAtOutcome → DiscoveryPlaces → DiscoveryPlaces
-discovery_held (DiscoveryAtOutcome.Refused why) old = old
-discovery_held (DiscoveryAtOutcome.Answered x) old = discovery_places x
+abbrev pub discovery_held : Result (Option DiscoveryEntry) Refusal → DiscoveryPlaces → DiscoveryPlaces
+discovery_held (Err why) old = old
+discovery_held (Ok x) old = discovery_places x
 
-abbrev pub discovery_numbers : Reading DiscoveryAtOutcome DiscoveryPlaces
+abbrev pub discovery_numbers : Reading (Result (Option DiscoveryEntry) Refusal) DiscoveryPlaces
 discovery_numbers = record { status = discovery_said; places = discovery_held }

@@ -7,8 +7,7 @@ ghost use Rattle.routing.specs.Queries.{route_at, discovery_at};
 ghost use Rattle.door.specs.Lent.{lent, Asked};
 ghost use Rattle.door_rows.specs.Rows.{route_at_places, route_places, route_numbers, discovery_at_places, discovery_places, discovery_numbers};
 
-use discovery_table::DiscoveryLookup;
-use route_table::RouteLookup;
+use standard::{DiscoveryEntry, RouteEntry};
 
 // The places of a route: whether there is one, and its fields; a yes or a no is 1 or 0.
 #[derive(Drop)]
@@ -40,11 +39,11 @@ pub struct DiscoveryPlaces {
 }
 
 // A route, as the numbers of its places.
-fn route_places(x: RouteLookup) -> RoutePlaces
+fn route_places(x: Option<RouteEntry>) -> RoutePlaces
     ensures { result ≡ route_places x }
 {
     match x {
-        RouteLookup::Missing => RoutePlaces {
+        None => RoutePlaces {
             found: 0,
             destination: 0,
             status: 0,
@@ -57,7 +56,7 @@ fn route_places(x: RouteLookup) -> RoutePlaces
             total_usage_count: 0,
             recent_activity: 0,
         },
-        RouteLookup::Found(e) => {
+        Some(e) => {
             let s = e.status;
             RoutePlaces {
                 found: 1,
@@ -77,11 +76,11 @@ fn route_places(x: RouteLookup) -> RoutePlaces
 }
 
 // A discovery, as the numbers of its places.
-fn discovery_places(x: DiscoveryLookup) -> DiscoveryPlaces
+fn discovery_places(x: Option<DiscoveryEntry>) -> DiscoveryPlaces
     ensures { result ≡ discovery_places x }
 {
     match x {
-        DiscoveryLookup::Missing => DiscoveryPlaces {
+        None => DiscoveryPlaces {
             found: 0,
             source_address: 0,
             route_request_id: 0,
@@ -91,7 +90,7 @@ fn discovery_places(x: DiscoveryLookup) -> DiscoveryPlaces
             expiration_time: 0,
             destination_address: 0,
         },
-        DiscoveryLookup::Found(e) => DiscoveryPlaces {
+        Some(e) => DiscoveryPlaces {
             found: 1,
             source_address: e.source_address.0,
             route_request_id: e.route_request_id,

@@ -1,12 +1,11 @@
 -- A refused call leaves the columns and the places: what is refused leaves the rows, and rows of well-formed columns are the columns.
+use Rattle.std.specs.Prelude.{Option, Some, None, Ok, Err}
 use Prim.Native.Nat.{ℕ, ◌<◌, ◌≤◌}
 use native.Mathlib.Omega.{arith}
 use mathlib.Core.Path.{◌≡◌, refl, sym}
 use lib.Dec.{leb}
 use lib.ListN.{length}
 use Rattle.types.specs.declared.Nwk.{Nwk}
-use Rattle.types.specs.declared.Sum.{Sum}
-use Rattle.types.specs.declared.Sum.TheVariants.{At, Past}
 use Rattle.types.specs.Clock.{time_sum}
 use Rattle.standard.specs.Discovery.{pair_key, discovery_key}
 use Rattle.standard.specs.Expiry.{expired}
@@ -15,9 +14,7 @@ use Rattle.standard.specs.Reply.{Replied, reply}
 use Rattle.standard.specs.Request.{Requested, request}
 use Rattle.standard.specs.Time.{sum_made}
 use Rattle.standard.proofs.Picked.{by-test}
-use Rattle.route_reply.specs.declared.ReplyAnswer.TheVariants as reply-answer
 use Rattle.route_reply.specs.Answer as reply-step
-use Rattle.route_request.specs.declared.RequestAnswer.TheVariants as request-answer
 use Rattle.route_request.specs.Answer as request-step
 use Rattle.route_args.specs.Read.{many_to_one_of}
 use Rattle.routing.specs.declared.Routing.{Routing}
@@ -32,12 +29,12 @@ use Rattle.door_search.specs.Reply.{ReplyPlaces, reply_status, reply_numbers, Re
 use Rattle.door_search.specs.Request.{RequestPlaces, request_status, request_numbers, RequestMade}
 
 reply-keeps : Keeps reply_numbers
-reply-keeps (reply-answer.Refused why) old p = refl
-reply-keeps (reply-answer.Answered d u) old p = absurd (omega arith)
+reply-keeps (Err why) old p = refl
+reply-keeps (Ok (d, u)) old p = absurd (omega arith)
 
 request-keeps : Keeps request_numbers
-request-keeps (request-answer.Refused why) old p = refl
-request-keeps (request-answer.Answered b u) old p = absurd (omega arith)
+request-keeps (Err why) old p = refl
+request-keeps (Ok (b, u)) old p = absurd (omega arith)
 
 -- a step on a state, and what it hands back where it is refused
 abbrev ReplyBack : Routing → reply-step.ReplyStep → Type 0
@@ -61,9 +58,9 @@ module _ (s : Routing) (w : WellFormed s) where
       (λ _. by-test (RequestBack s) (leb (length x.tables.discoveries) 32) _ _ (λ _ p. absurd (omega arith)) (λ _. same))
       (λ _. same)
 
-  by-sum : (u : Sum) (rule : ℕ → Requested) → RequestBack s (request-step.by_time (rows_in s) u rule)
-  by-sum (At e) rule = requested-back (rule e)
-  by-sum Past rule = λ _. same
+  by-sum : (u : Option ℕ) (rule : ℕ → Requested) → RequestBack s (request-step.by_time (rows_in s) u rule)
+  by-sum (Some e) rule = requested-back (rule e)
+  by-sum None rule = λ _. same
 
 module _ (before after : Counters → Routing) (r : ℕ) (p : 0 < r) where
   pub reply-refused : (own originator : Nwk) (id : ℕ) (responder sender : Nwk) (cost : ℕ) (old new : ReplyPlaces)

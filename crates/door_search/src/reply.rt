@@ -5,9 +5,8 @@ ghost use Rattle.door.specs.Lent.{lent, Says};
 ghost use Rattle.door_search.specs.Reply.{disposition_places, reply_at, reply_numbers, ReplyMade};
 
 use crate::DispositionPlaces;
-use route_reply::ReplyAnswer;
-use standard::RouteReplyDisposition;
-use types::Nwk;
+use standard::{RouteReplyDisposition, RouteUpdate};
+use types::{Nwk, Refusal};
 
 // What is to be done with a reply, as the numbers of its places.
 fn disposition_places(d: RouteReplyDisposition) -> DispositionPlaces
@@ -37,7 +36,7 @@ fn disposition_places(d: RouteReplyDisposition) -> DispositionPlaces
 
 // The numbers of a reply's answer.
 fn say_reply(
-    answer: ReplyAnswer,
+    answer: Result<(RouteReplyDisposition, Option<RouteUpdate>), Refusal>,
     disposition: &mut u8,
     next_hop: &mut u16,
     path_cost: &mut u8,
@@ -52,8 +51,8 @@ fn say_reply(
         result }
 {
     match answer {
-        ReplyAnswer::Refused(why) => why.number(),
-        ReplyAnswer::Answered(d, u) => {
+        Err(why) => why.number(),
+        Ok((d, u)) => {
             let x = disposition_places(d);
             let y = door::update_places(u);
             *disposition = x.disposition;

@@ -3,12 +3,12 @@ ghost use Rattle.standard.specs.Route.{nwk};
 ghost use Rattle.door.specs.Lent.{lent, Says};
 ghost use Rattle.door_search.specs.Request.{request_at, request_numbers, RequestMade};
 
-use route_request::RequestAnswer;
-use types::Nwk;
+use standard::RouteUpdate;
+use types::{Nwk, Refusal};
 
 // The numbers of a request's answer.
 fn say_request(
-    answer: RequestAnswer,
+    answer: Result<(bool, Option<RouteUpdate>), Refusal>,
     accepted: &mut u8,
     changed: &mut u8,
     changed_destination: &mut u16,
@@ -21,8 +21,8 @@ fn say_request(
         result }
 {
     match answer {
-        RequestAnswer::Refused(why) => why.number(),
-        RequestAnswer::Answered(yes, u) => {
+        Err(why) => why.number(),
+        Ok((yes, u)) => {
             let y = door::update_places(u);
             *accepted = door::flag(yes);
             *changed = y.changed;

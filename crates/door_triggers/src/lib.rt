@@ -44,7 +44,7 @@ pub extern "C" fn warpteasel_raw_note_route_error(
     ) {
         return 10;
     }
-    let count = types::saturating_add_u8(*mtorr_route_errors, 1);
+    let count = (*mtorr_route_errors).saturating_add(1);
     *mtorr_route_errors = count;
     *reached = door::flag(threshold <= count);
     0
@@ -88,7 +88,7 @@ pub extern "C" fn warpteasel_raw_note_delivery_failure(
     ) {
         return 10;
     }
-    let count = types::saturating_add_u8(*mtorr_delivery_failures, 1);
+    let count = (*mtorr_delivery_failures).saturating_add(1);
     *mtorr_delivery_failures = count;
     *reached = door::flag(threshold <= count);
     0

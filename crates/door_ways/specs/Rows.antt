@@ -1,30 +1,30 @@
 -- The numbers of the route record at a place: no record 0; a record 1, its destination and its relays.
 -- Document 01, "How each place should look": "a definition gives this paper's number and values for each of its cases".
 -- Assumes nothing.
-use Rattle.std.specs.Prelude.{ℕ, List, ◌≡◌, length}
+use Rattle.std.specs.Prelude.{ℕ, List, ◌≡◌, length, Option, Some, None, Result, Ok, Err}
 use Rattle.types.specs.Refusal.{refusal_number}
 use Rattle.standard.specs.declared.RelayList.{RelayList}
 use Rattle.routing.specs.declared.Routing.{Routing}
-use Rattle.routing.specs.declared.RecordAtAnswer.{RecordAtAnswer}
-use Rattle.routing.specs.declared.RecordAtAnswer.TheVariants.{Refused, Missing, Found}
 use Rattle.routing.specs.declared.RecordAtOutcome.{RecordAtOutcome}
 use Rattle.routing.specs.Records.{record_at}
 use Rattle.door.specs.Lent.{Counters, Reading, Asked, NotAsked}
 use Rattle.door_ways.specs.Relays.{RelayedPlaces, relayed_with}
+use Rattle.types.specs.declared.Refusal.{Refusal}
+use Rattle.standard.specs.declared.RecordEntry.{RecordEntry}
 
-abbrev pub row_status : RecordAtAnswer → ℕ
-row_status (Refused why) = refusal_number why
-row_status Missing = 0
-row_status (Found e) = 0
+abbrev pub row_status : Result (Option RecordEntry) Refusal → ℕ
+row_status (Err why) = refusal_number why
+row_status (Ok None) = 0
+row_status (Ok (Some e)) = 0
 
 -- the relays beside no record are blank (routing, `record-at-blank`), so that their places are 0
-abbrev pub row_places : RecordAtAnswer → RelayList → RelayedPlaces → RelayedPlaces
-row_places (Refused why) l old = old
-row_places Missing l old = relayed_with 0 0 l
-row_places (Found e) l old = relayed_with 1 e.destination.0 l
+abbrev pub row_places : Result (Option RecordEntry) Refusal → RelayList → RelayedPlaces → RelayedPlaces
+row_places (Err why) l old = old
+row_places (Ok None) l old = relayed_with 0 0 l
+row_places (Ok (Some e)) l old = relayed_with 1 e.destination.0 l
 
 -- an answer with relays beside it
-abbrev pub row_beside : RecordAtAnswer → RelayList → RecordAtOutcome
+abbrev pub row_beside : Result (Option RecordEntry) Refusal → RelayList → RecordAtOutcome
 row_beside answer l = record { answer = answer; relays = l }
 
 abbrev pub row_numbers : Reading RecordAtOutcome RelayedPlaces

@@ -4,27 +4,23 @@
 ghost use Rattle.std.specs.Prelude.{◌≡◌, length};
 ghost use Rattle.standard.specs.Route.{nwk};
 ghost use Rattle.route_table.specs.Table as route;
-ghost use Rattle.routing.specs.Records.{hop_to, answer_in, record_here};
+ghost use Rattle.routing.specs.Records.{hop_to, answer_in};
 ghost use Rattle.door.specs.Lent.{lent, Says};
 ghost use Rattle.door_ways.specs.Relays.{out, relayed_at, relayed_with};
 ghost use Rattle.door_ways.specs.Rows.{row_beside, row_numbers, RowAsked};
 ghost use Rattle.door_ways.specs.Ways.{beside, way_numbers, WayAsked, WayByDefault};
 
-use record_table::RecordLookup;
-use route_calls::HopAnswer;
-use standard::{RecordRoute, RelayList};
-use types::Nwk;
+use standard::{RecordEntry, RecordRoute, RelayList};
+use types::{Nwk, Refusal};
 
 // The places of a list's relays, each written, with 0 after the relays.
 fn write_relays(relays: &mut [u16], list: RelayList)
     requires { length relays.old ≡ 32 }
     ensures { relays.new ≡ out list }
 {
-    let mut i: usize = 0;
-    while i < 32 {
+    for i in 0..32 {
         let a = list.addresses[i];
         relays[i] = a.0;
-        i += 1;
     }
 }
 
@@ -49,7 +45,7 @@ fn write_relayed(
 
 // The numbers of a hop that the route table names, as the way: one that is not known is refusal 6.
 fn say_hop(
-    hop: HopAnswer,
+    hop: Result<Option<Nwk>, Refusal>,
     list: RelayList,
     way: &mut u8,
     next_hop: &mut u16,
@@ -63,15 +59,15 @@ fn say_hop(
         result }
 {
     match hop {
-        HopAnswer::NoRoute => {
+        Ok(None) => {
             write_relayed(0, 0, list, way, next_hop, count, relays);
             0
         }
-        HopAnswer::Hop(n) => {
+        Ok(Some(n)) => {
             write_relayed(1, n.0, list, way, next_hop, count, relays);
             0
         }
-        HopAnswer::Unknown => 6,
+        Err(why) => why.number(),
     }
 }
 
@@ -82,7 +78,7 @@ fn say_way(
     route_usage: &[u32],
     routes: usize,
     destination: Nwk,
-    word: RecordRoute,
+    word: Option<RecordRoute>,
     list: RelayList,
     way: &mut u8,
     next_hop: &mut u16,
@@ -96,15 +92,15 @@ fn say_way(
         result }
 {
     match word {
-        RecordRoute::Direct => {
+        Some(RecordRoute::Direct) => {
             write_relayed(1, destination.0, list, way, next_hop, count, relays);
             0
         }
-        RecordRoute::SourceRoute => {
+        Some(RecordRoute::SourceRoute) => {
             write_relayed(2, 0, list, way, next_hop, count, relays);
             0
         }
-        RecordRoute::None => {
+        None => {
             let hop = route_calls::next_hop(
                 route_keys,
                 route_words,
@@ -244,7 +240,7 @@ pub extern "C" fn warpteasel_raw_route_to_default(
 
 // The numbers of what stands at a place of the record table, with its relays.
 fn say_row(
-    entry: RecordLookup,
+    entry: Option<RecordEntry>,
     list: RelayList,
     found: &mut u8,
     destination: &mut u16,
@@ -252,17 +248,17 @@ fn say_row(
     relays: &mut [u16],
 ) -> u8
     requires { length relays.old ≡ 32 }
-    ensures { Says row_numbers (row_beside (record_here entry) list)
+    ensures { Says row_numbers (row_beside (Ok entry) list)
         (relayed_at found.old destination.old count.old relays.old)
         (relayed_at found.new destination.new count.new relays.new)
         result }
 {
     match entry {
-        RecordLookup::Missing => {
+        None => {
             write_relayed(0, 0, list, found, destination, count, relays);
             0
         }
-        RecordLookup::Found(e) => {
+        Some(e) => {
             write_relayed(1, e.destination.0, list, found, destination, count, relays);
             0
         }

@@ -1,5 +1,6 @@
 -- What expiry would leave, asked of the rows as they are: whether a route stays, what is found under a pair, and whether there is room.
 -- Each is a law of what a filter leaves, for these rows.
+use Rattle.std.specs.Prelude.{Some, None, Ok, Err}
 use Prim.Native.Nat.{ℕ, ◌<◌, ◌≤◌}
 use native.Mathlib.Omega.{arith}
 use mathlib.Core.Bool.{Bool, true, false, not, ◌&&◌}
@@ -7,7 +8,6 @@ use mathlib.Core.List.{List}
 use mathlib.Core.Path.{◌≡◌, refl, sym, ap, ◌∙◌}
 use lib.Dec.{leb}
 use lib.ListN.{take}
-use Rattle.flat_map.specs.declared.Place.TheVariants as place
 use Rattle.flat_map.specs.Seek.{place_of}
 use Rattle.flat_map.proofs.Left.{some_left, found_left, gone-left, missing-left, room-free, room-there, room-freed}
 use Rattle.standard.specs.declared.RouteEntry.{RouteEntry}
@@ -18,7 +18,6 @@ use Rattle.standard.specs.Ordered.{lookup, count_with, keep}
 use Rattle.standard.specs.Query.{some_fits}
 use Rattle.standard.specs.Route.{is_underway, route_key}
 use Rattle.route_table.proofs.Rows as routes
-use Rattle.discovery_table.specs.declared.DiscoveryLookup.TheVariants.{Found, Missing}
 use Rattle.discovery_table.specs.Table as discovery
 use Rattle.discovery_table.proofs.Rows as discoveries
 use Rattle.search_tables.specs.Packed.{SearchTables, WellFormed, tables_of}
@@ -43,25 +42,25 @@ module _ (now : ℕ) (ds : List DiscoveryEntry) (e : RouteEntry) where
 
 -- what stands under a pair once expiry is made
 module _ (now k : ℕ) (t : discovery.DiscoveryTable) (w : discovery.WellFormed t) where
-  pub live-missing : Missing ≡ discovery.looked (lookup discovery_key k (discovery.rows_of t)) → Missing ≡ discovery.looked (lookup discovery_key k (keep (live now) (discovery.rows_of t)))
-  live-missing q = ap discovery.looked (sym (missing-left discovery_key (live now) k (discovery.rows_of t) (discoveries.looked-missing _ q)))
+  pub live-missing : None ≡ (lookup discovery_key k (discovery.rows_of t)) → None ≡ lookup discovery_key k (keep (live now) (discovery.rows_of t))
+  live-missing q = (sym (missing-left discovery_key (live now) k (discovery.rows_of t) (discoveries.looked-missing _ q)))
 
-  pub live-over : (d : DiscoveryEntry) → Found d ≡ discovery.looked (lookup discovery_key k (discovery.rows_of t)) → live now d ≡ false
-      → Missing ≡ discovery.looked (lookup discovery_key k (keep (live now) (discovery.rows_of t)))
-  live-over d q h = ap discovery.looked (sym (gone-left discovery_key (live now) k (discovery.rows_of t) d (discoveries.table-fit t w).fit.ascending (discoveries.looked-found _ d q) h))
+  pub live-over : (d : DiscoveryEntry) → Some d ≡ (lookup discovery_key k (discovery.rows_of t)) → live now d ≡ false
+      → None ≡ lookup discovery_key k (keep (live now) (discovery.rows_of t))
+  live-over d q h = (sym (gone-left discovery_key (live now) k (discovery.rows_of t) d (discoveries.table-fit t w).fit.ascending (discoveries.looked-found _ d q) h))
 
-  pub live-found : (d : DiscoveryEntry) → Found d ≡ discovery.looked (lookup discovery_key k (discovery.rows_of t)) → live now d ≡ true
-      → Found d ≡ discovery.looked (lookup discovery_key k (keep (live now) (discovery.rows_of t)))
-  live-found d q h = ap discovery.looked (sym (found_left discovery_key (live now) k (discovery.rows_of t) d (discoveries.looked-found _ d q) h))
+  pub live-found : (d : DiscoveryEntry) → Some d ≡ (lookup discovery_key k (discovery.rows_of t)) → live now d ≡ true
+      → Some d ≡ lookup discovery_key k (keep (live now) (discovery.rows_of t))
+  live-found d q h = (sym (found_left discovery_key (live now) k (discovery.rows_of t) d (discoveries.looked-found _ d q) h))
 
   -- room for it
   pub discovery-free : t.count < 32 → true ≡ leb (count_with discovery_key k (keep (live now) (discovery.rows_of t))) 32
   discovery-free h = sym (room-free discovery_key (live now) k 32 (discovery.rows_of t) (omega (arith, h, discoveries.many t w)))
 
-  pub discovery-there : (i : ℕ) → place.Found i ≡ place_of (take t.count t.keys) k → true ≡ leb (count_with discovery_key k (keep (live now) (discovery.rows_of t))) 32
+  pub discovery-there : (i : ℕ) → Ok i ≡ place_of (take t.count t.keys) k → true ≡ leb (count_with discovery_key k (keep (live now) (discovery.rows_of t))) 32
   discovery-there i p = sym (room-there discovery_key (live now) k 32 (discovery.rows_of t) _ (discoveries.table-fit t w).fit.small (discoveries.found-row t w k i p))
 
-  pub discovery-freed : 32 ≤ t.count → (i : ℕ) → place.Missing i ≡ place_of (take t.count t.keys) k
+  pub discovery-freed : 32 ≤ t.count → (i : ℕ) → Err i ≡ place_of (take t.count t.keys) k
       → some_fits (is_over now) (discovery.rows_of t) ≡ leb (count_with discovery_key k (keep (live now) (discovery.rows_of t))) 32
   discovery-freed h i p = sym (room-freed discovery_key (live now) k 32 (discovery.rows_of t) (omega (arith, h, w.ordered.small, discoveries.many t w)) (discoveries.missing-row t w k i p))
 
@@ -77,13 +76,13 @@ module _ (now k : ℕ) (s : SearchTables) (w : WellFormed s) where
       sym (room-free route_key (stays (tables_of s).discoveries (keep (live now) (tables_of s).discoveries)) k 64 (tables_of s).routes
       (omega (arith, h, routes.many s.routes w.routes)))
 
-  pub route-there : (i : ℕ) → place.Found i ≡ place_of (take s.routes.count s.routes.keys) k → true ≡ leb (count_with route_key k (expired now (tables_of s)).routes) 64
+  pub route-there : (i : ℕ) → Ok i ≡ place_of (take s.routes.count s.routes.keys) k → true ≡ leb (count_with route_key k (expired now (tables_of s)).routes) 64
   unfolding expired
   route-there i p =
       sym (room-there route_key (stays (tables_of s).discoveries (keep (live now) (tables_of s).discoveries)) k 64 (tables_of s).routes _
       (routes.table-fit s.routes w.routes).fit.small (routes.found-row s.routes w.routes k i p))
 
-  pub route-freed : 64 ≤ s.routes.count → (i : ℕ) → place.Missing i ≡ place_of (take s.routes.count s.routes.keys) k
+  pub route-freed : 64 ≤ s.routes.count → (i : ℕ) → Err i ≡ place_of (take s.routes.count s.routes.keys) k
       → some_fits (goes now (tables_of s).discoveries) (tables_of s).routes ≡ leb (count_with route_key k (expired now (tables_of s)).routes) 64
   unfolding expired
   route-freed h i p =

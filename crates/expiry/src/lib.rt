@@ -12,9 +12,7 @@ ghost use Rattle.standard.specs.Query.{some_fits};
 ghost use Rattle.standard.specs.Route.{route_key};
 ghost use Rattle.search_tables.specs.Packed.{in_columns, WellFormed, tables_of, Holds};
 
-use discovery_table::DiscoveryLookup;
-use flat_map::Place;
-use standard::RouteEntry;
+use standard::{DiscoveryEntry, RouteEntry};
 use types::Nwk;
 
 // How many routes and discoveries there are.
@@ -79,6 +77,7 @@ fn keep_pending(
 {
     let mut n = routes;
     let mut i: usize = 0;
+    // `while`: a row that goes makes the rest shorter.
     while i < n {
         let e = route_table::entry_at(route_keys, route_words, route_usage, i);
         if stays(
@@ -166,8 +165,7 @@ fn frees_route(
     ensures { let t = tables_of (in_columns route_keys.now route_words.now route_usage.now routes discovery_keys.now discovery_words.now discovery_ends.now discoveries) in
         result ≡ some_fits (λ e. not (stays t.discoveries (keep (live now_ms) t.discoveries) e)) t.routes }
 {
-    let mut i: usize = 0;
-    while i < routes {
+    for i in 0..routes {
         let e = route_table::entry_at(route_keys, route_words, route_usage, i);
         if !stays(
             e,
@@ -179,7 +177,6 @@ fn frees_route(
         ) {
             return true;
         }
-        i += 1;
     }
     false
 }
@@ -204,7 +201,7 @@ pub fn route_room(
         return true;
     }
     let place = route_table::place_of(route_keys, route_words, route_usage, routes, destination);
-    let Place::Missing(_) = place else {
+    let Err(_) = place else {
         return true;
     };
     frees_route(
@@ -244,7 +241,7 @@ pub fn discovery_room(
         source,
         id,
     );
-    let Place::Missing(_) = place else {
+    let Err(_) = place else {
         return true;
     };
     discovery_table::some_over(
@@ -265,11 +262,11 @@ pub fn find_live(
     source: Nwk,
     id: u8,
     now_ms: u64,
-) -> DiscoveryLookup
+) -> Option<DiscoveryEntry>
     requires { discovery.WellFormed (discovery.in_columns discovery_keys.now discovery_words.now discovery_ends.now discoveries) }
-    ensures { result ≡ discovery.looked (lookup discovery_key (pair_key source id) (keep (live now_ms) (discovery.rows_of (discovery.in_columns discovery_keys.now discovery_words.now discovery_ends.now discoveries)))) }
+    ensures { result ≡ lookup discovery_key (pair_key source id) (keep (live now_ms) (discovery.rows_of (discovery.in_columns discovery_keys.now discovery_words.now discovery_ends.now discoveries))) }
 {
-    let DiscoveryLookup::Found(d) = discovery_table::find(
+    let Some(d) = discovery_table::find(
         discovery_keys,
         discovery_words,
         discovery_ends,
@@ -277,10 +274,10 @@ pub fn find_live(
         source,
         id,
     ) else {
-        return DiscoveryLookup::Missing;
+        return None;
     };
     if d.expiration_time <= now_ms {
-        return DiscoveryLookup::Missing;
+        return None;
     }
-    DiscoveryLookup::Found(d)
+    Some(d)
 }

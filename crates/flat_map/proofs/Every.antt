@@ -1,11 +1,11 @@
 -- A test that every row passes: followed by a loop over the rest, and kept by each step on rows.
 -- Each law takes the first row off, and goes by whether it passes.
+use Rattle.std.specs.Prelude.{Some}
 use Prim.Native.Nat.{ℕ, zero, suc, ◌<◌}
 use native.Mathlib.Nat.{le_of_suc-le-suc, not-suc-le-zero}
 use native.Mathlib.Omega.{arith}
 use mathlib.Core.Bool.{Bool, true, false, cond, ◌&&◌, false≢true}
 use mathlib.Core.List.{List, [], ◌∷◌, map}
-use mathlib.Core.Option.{some}
 use mathlib.Core.Path.{◌≡◌, refl, sym, ap, ◌∙◌}
 use lib.ListN.{length, get_or}
 use Rattle.standard.specs.Ordered.{lookup, put, remove, pop_first, keep}
@@ -51,10 +51,10 @@ module _ {E : Type 0} (test : E → Bool) where
   every-at (x ∷ xs) (suc i) d s h = every-at xs i d (tail-so x xs s) (le_of_suc-le-suc h)
 
   module _ (key_of : E → ℕ) where
-    pub every-lookup : (k : ℕ) (xs : List E) (e : E) → every test xs ≡ true → lookup key_of k xs ≡ some e → test e ≡ true
+    pub every-lookup : (k : ℕ) (xs : List E) (e : E) → every test xs ≡ true → lookup key_of k xs ≡ Some e → test e ≡ true
     every-lookup k [] e s h = absurd (none-some e (sym (lookup-none key_of k) ∙ h))
     every-lookup k (x ∷ xs) e s h = go (tri (key_of x) k) (λ q. every-lookup k xs e (tail-so x xs s) q) where
-      go : Tri (key_of x) k → (lookup key_of k xs ≡ some e → test e ≡ true) → test e ≡ true
+      go : Tri (key_of x) k → (lookup key_of k xs ≡ Some e → test e ≡ true) → test e ≡ true
       go (lt p) ih = ih (sym (lookup-past key_of k x xs (λ q. omega arith)) ∙ h)
       go (eq p) ih = let q : x ≡ e = cc (lookup-here key_of k x xs p) in ap test (sym q) ∙ head-so x xs s
       go (gt p) ih = ih (sym (lookup-past key_of k x xs (λ q. omega arith)) ∙ h)

@@ -1,10 +1,10 @@
 -- Rows picked by a question: the first that fits stands under its own key, and a loop that collects what it picks has still
 -- the rest to do. Each law takes the next row off, and goes by whether it fits.
+use Rattle.std.specs.Prelude.{Option, Some, None}
 use Prim.Native.Nat.{ℕ, ◌+◌, ◌<◌, ◌≤◌}
 use native.Mathlib.Omega.{arith}
 use mathlib.Core.Bool.{Bool, true, false, cond, ◌||◌}
 use mathlib.Core.List.{List, [], ◌∷◌, ◌++◌, map, append-nil, append_assoc}
-use mathlib.Core.Option.{Option, none, some}
 use mathlib.Core.Path.{◌≡◌, refl, sym, ap, ◌∙◌, subst}
 use lib.ListN.{length, set, length-append}
 use Rattle.standard.specs.Ordered.{Before, Ascending, lookup, keep}
@@ -18,7 +18,7 @@ use Rattle.flat_map.proofs.Compare.{Tri, lt, eq, gt, tri}
 
 module _ {E : Type 0} (key_of : E → ℕ) (fits : E → Bool) where
   -- a row found has a key above every key before it
-  above : (k : ℕ) (xs : List E) (e : E) → Before k (map key_of xs) → Ascending key_of xs → lookup key_of (key_of e) xs ≡ some e → k < key_of e
+  above : (k : ℕ) (xs : List E) (e : E) → Before k (map key_of xs) → Ascending key_of xs → lookup key_of (key_of e) xs ≡ Some e → k < key_of e
   above k xs e b a h = go (tri k (key_of e)) where
     go : Tri k (key_of e) → k < key_of e
     go (lt p) = p
@@ -29,12 +29,12 @@ module _ {E : Type 0} (key_of : E → ℕ) (fits : E → Bool) where
       lower (y ∷ ys) q = omega arith
 
   -- the first that fits is the one under its own key
-  pub first-lookup : (xs : List E) (e : E) → Ascending key_of xs → first fits xs ≡ some e → lookup key_of (key_of e) xs ≡ some e
+  pub first-lookup : (xs : List E) (e : E) → Ascending key_of xs → first fits xs ≡ Some e → lookup key_of (key_of e) xs ≡ Some e
   unfolding first
   first-lookup [] e a h = absurd (none-some e h)
   first-lookup (x ∷ xs) e a h = go (fits x) h (λ q. first-lookup xs e a.1 q) where
-    go : (b : Bool) → cond b (some x) (first fits xs) ≡ some e → (first fits xs ≡ some e → lookup key_of (key_of e) xs ≡ some e) → lookup key_of (key_of e) (x ∷ xs) ≡ some e
-    go true q ih = let s : x ≡ e = cc in lookup-here key_of (key_of e) x xs (ap key_of s) ∙ ap some s
+    go : (b : Bool) → cond b (Some x) (first fits xs) ≡ Some e → (first fits xs ≡ Some e → lookup key_of (key_of e) xs ≡ Some e) → lookup key_of (key_of e) (x ∷ xs) ≡ Some e
+    go true q ih = let s : x ≡ e = cc in lookup-here key_of (key_of e) x xs (ap key_of s) ∙ ap Some s
     go false q ih =
         let r = ih q in
         let l = above (key_of x) xs e a.0 a.1 r in
@@ -46,36 +46,36 @@ module _ {E : Type 0} (key_of : E → ℕ) (fits : E → Bool) where
   put-back-first f same [] a = refl
   put-back-first f same (x ∷ xs) a = go (fits x) (put-back-first f same xs a.1) where
     past : (o : Option E) → first fits xs ≡ o → put_back key_of f o (x ∷ xs) ≡ x ∷ put_back key_of f o xs
-    past none q = refl
-    past (some e) q = put-gt key_of (f e) x xs (subst (λ (k : ℕ). key_of x < k) (sym (same e)) (above (key_of x) xs e a.0 a.1 (first-lookup xs e a.1 q)))
+    past None q = refl
+    past (Some e) q = put-gt key_of (f e) x xs (subst (λ (k : ℕ). key_of x < k) (sym (same e)) (above (key_of x) xs e a.0 a.1 (first-lookup xs e a.1 q)))
 
-    go : (b : Bool) → put_back key_of f (first fits xs) xs ≡ change_first fits f xs → put_back key_of f (cond b (some x) (first fits xs)) (x ∷ xs) ≡ cond b (f x ∷ xs) (x ∷ change_first fits f xs)
+    go : (b : Bool) → put_back key_of f (first fits xs) xs ≡ change_first fits f xs → put_back key_of f (cond b (Some x) (first fits xs)) (x ∷ xs) ≡ cond b (f x ∷ xs) (x ∷ change_first fits f xs)
     go true ih = put-eq key_of (f x) x xs (same x)
     go false ih = past (first fits xs) refl ∙ cons x ih
 
 module _ {E : Type 0} (fits : E → Bool) where
-  pub first_fits : (xs : List E) (e : E) → first fits xs ≡ some e → fits e ≡ true
+  pub first_fits : (xs : List E) (e : E) → first fits xs ≡ Some e → fits e ≡ true
   unfolding first
   first_fits [] e h = absurd (none-some e h)
   first_fits (x ∷ xs) e h = go (fits x) refl h (λ q. first_fits xs e q) where
-    go : (b : Bool) → fits x ≡ b → cond b (some x) (first fits xs) ≡ some e → (first fits xs ≡ some e → fits e ≡ true) → fits e ≡ true
+    go : (b : Bool) → fits x ≡ b → cond b (Some x) (first fits xs) ≡ Some e → (first fits xs ≡ Some e → fits e ≡ true) → fits e ≡ true
     go true t q ih = let s : x ≡ e = cc in ap fits (sym s) ∙ t
     go false t q ih = ih q
 
   -- one fits exactly where there is a first
-  pub some-none : (xs : List E) → first fits xs ≡ none → some_fits fits xs ≡ false
+  pub some-none : (xs : List E) → first fits xs ≡ None → some_fits fits xs ≡ false
   unfolding first some_fits
   some-none [] h = refl
   some-none (x ∷ xs) h = go (fits x) h (λ q. some-none xs q) where
-    go : (b : Bool) → cond b (some x) (first fits xs) ≡ none → (first fits xs ≡ none → some_fits fits xs ≡ false) → b || some_fits fits xs ≡ false
+    go : (b : Bool) → cond b (Some x) (first fits xs) ≡ None → (first fits xs ≡ None → some_fits fits xs ≡ false) → b || some_fits fits xs ≡ false
     go true q ih = absurd (none-some x (sym q))
     go false q ih = ih q
 
-  pub some_first : (xs : List E) (e : E) → first fits xs ≡ some e → some_fits fits xs ≡ true
+  pub some_first : (xs : List E) (e : E) → first fits xs ≡ Some e → some_fits fits xs ≡ true
   unfolding first some_fits
   some_first [] e h = absurd (none-some e h)
   some_first (x ∷ xs) e h = go (fits x) h (λ q. some_first xs e q) where
-    go : (b : Bool) → cond b (some x) (first fits xs) ≡ some e → (first fits xs ≡ some e → some_fits fits xs ≡ true) → b || some_fits fits xs ≡ true
+    go : (b : Bool) → cond b (Some x) (first fits xs) ≡ Some e → (first fits xs ≡ Some e → some_fits fits xs ≡ true) → b || some_fits fits xs ≡ true
     go true q ih = refl
     go false q ih = ih q
 
@@ -134,11 +134,11 @@ module _ {E A : Type 0} (cap : ℕ) (blank : A) (f : E → A) (fits : E → Bool
 
 -- the least of what is passed and of what is to come
 pub lesser-assoc : (a b c : Option ℕ) → lesser (lesser a b) c ≡ lesser a (lesser b c)
-lesser-assoc none b c = refl
-lesser-assoc (some m) none c = refl
-lesser-assoc (some m) (some n) none = refl
-lesser-assoc (some m) (some n) (some k) = ap some (omega arith)
+lesser-assoc None b c = refl
+lesser-assoc (Some m) None c = refl
+lesser-assoc (Some m) (Some n) None = refl
+lesser-assoc (Some m) (Some n) (Some k) = ap Some (omega arith)
 
-pub lesser-none : (a : Option ℕ) → lesser a none ≡ a
-lesser-none none = refl
-lesser-none (some m) = refl
+pub lesser-none : (a : Option ℕ) → lesser a None ≡ a
+lesser-none None = refl
+lesser-none (Some m) = refl

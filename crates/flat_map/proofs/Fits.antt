@@ -1,10 +1,10 @@
 -- What each step leaves of rows that fit a table fits it too, since it keeps the order and needs no more places;
 -- and a filter that drops no row leaves them as they are.
+use Rattle.std.specs.Prelude.{Some}
 use Prim.Native.Nat.{ℕ, ◌≤◌}
 use native.Mathlib.Omega.{arith}
 use mathlib.Core.Bool.{Bool, true, false, cond}
 use mathlib.Core.List.{List, [], ◌∷◌, map}
-use mathlib.Core.Option.{some}
 use mathlib.Core.Path.{◌≡◌, refl}
 use lib.ListN.{length, length-map}
 use Rattle.standard.specs.Ordered.{lookup, put, count_with, remove, keep}
@@ -20,7 +20,7 @@ module _ {E : Type 0} (cap : ℕ) (key_of : E → ℕ) (blank : E) (xs : List E)
   }
 
   -- a row over one that is there wants no room
-  pub room-known : (k : ℕ) (d : E) → lookup key_of k xs ≡ some d → count_with key_of k xs ≤ cap
+  pub room-known : (k : ℕ) (d : E) → lookup key_of k xs ≡ Some d → count_with key_of k xs ≤ cap
   room-known k d e = omega (arith, count-with-found key_of k d xs e, h.small)
 
   pub fit-remove : (k : ℕ) → Fit cap key_of blank (remove key_of k xs)

@@ -1,10 +1,10 @@
 -- What a filter leaves of rows: whether one of them fits, what stands under a key, and how many there are once there is one under it.
 -- Each law takes the first row off, and goes by whether it passes.
+use Rattle.std.specs.Prelude.{Some, None}
 use Prim.Native.Nat.{ℕ, suc, ◌<◌, ◌≤◌}
 use native.Mathlib.Omega.{arith}
 use mathlib.Core.Bool.{Bool, true, false, cond, not, ◌&&◌, ◌||◌, false≢true, true≢false}
 use mathlib.Core.List.{List, [], ◌∷◌, map}
-use mathlib.Core.Option.{none, some}
 use mathlib.Core.Path.{◌≡◌, refl, sym, ap, ◌∙◌, subst}
 use lib.Dec.{leb, eqb}
 use lib.ListN.{length}
@@ -51,38 +51,38 @@ module _ {E : Type 0} (key_of : E → ℕ) (p : E → Bool) (k : ℕ) where
     go false = refl
 
   -- what is missing is missing in what is left
-  pub missing-left : (xs : List E) → lookup key_of k xs ≡ none → lookup key_of k (keep p xs) ≡ none
+  pub missing-left : (xs : List E) → lookup key_of k xs ≡ None → lookup key_of k (keep p xs) ≡ None
   missing-left [] h = h
   missing-left (x ∷ xs) h = go (tri (key_of x) k) (λ q. missing-left xs q) where
-    past : (key_of x ≡ k → ⊥) → (lookup key_of k xs ≡ none → lookup key_of k (keep p xs) ≡ none) → lookup key_of k (keep p (x ∷ xs)) ≡ none
+    past : (key_of x ≡ k → ⊥) → (lookup key_of k xs ≡ None → lookup key_of k (keep p xs) ≡ None) → lookup key_of k (keep p (x ∷ xs)) ≡ None
     past n ih = other-left x xs n ∙ ih (sym (lookup-past key_of k x xs n) ∙ h)
 
-    go : Tri (key_of x) k → (lookup key_of k xs ≡ none → lookup key_of k (keep p xs) ≡ none) → lookup key_of k (keep p (x ∷ xs)) ≡ none
+    go : Tri (key_of x) k → (lookup key_of k xs ≡ None → lookup key_of k (keep p xs) ≡ None) → lookup key_of k (keep p (x ∷ xs)) ≡ None
     go (lt q) ih = past (λ r. omega arith) ih
     go (eq q) ih = absurd (none-some x (sym h ∙ lookup-here key_of k x xs q))
     go (gt q) ih = past (λ r. omega arith) ih
 
   -- a row found that passes is left, and one that fails is gone
-  pub found_left : (xs : List E) (e : E) → lookup key_of k xs ≡ some e → p e ≡ true → lookup key_of k (keep p xs) ≡ some e
+  pub found_left : (xs : List E) (e : E) → lookup key_of k xs ≡ Some e → p e ≡ true → lookup key_of k (keep p xs) ≡ Some e
   found_left [] e h t = h
   found_left (x ∷ xs) e h t = go (tri (key_of x) k) (λ q. found_left xs e q t) where
-    past : (key_of x ≡ k → ⊥) → (lookup key_of k xs ≡ some e → lookup key_of k (keep p xs) ≡ some e) → lookup key_of k (keep p (x ∷ xs)) ≡ some e
+    past : (key_of x ≡ k → ⊥) → (lookup key_of k xs ≡ Some e → lookup key_of k (keep p xs) ≡ Some e) → lookup key_of k (keep p (x ∷ xs)) ≡ Some e
     past n ih = other-left x xs n ∙ ih (sym (lookup-past key_of k x xs n) ∙ h)
 
-    go : Tri (key_of x) k → (lookup key_of k xs ≡ some e → lookup key_of k (keep p xs) ≡ some e) → lookup key_of k (keep p (x ∷ xs)) ≡ some e
+    go : Tri (key_of x) k → (lookup key_of k xs ≡ Some e → lookup key_of k (keep p xs) ≡ Some e) → lookup key_of k (keep p (x ∷ xs)) ≡ Some e
     go (lt q) ih = past (λ r. omega arith) ih
     go (eq q) ih =
         let s : x ≡ e = cc (lookup-here key_of k x xs q) in
-        rw (ap p s ∙ t) (lookup-here key_of k x (keep p xs) q ∙ ap some s)
+        rw (ap p s ∙ t) (lookup-here key_of k x (keep p xs) q ∙ ap Some s)
     go (gt q) ih = past (λ r. omega arith) ih
 
-  pub gone-left : (xs : List E) (e : E) → Ascending key_of xs → lookup key_of k xs ≡ some e → p e ≡ false → lookup key_of k (keep p xs) ≡ none
+  pub gone-left : (xs : List E) (e : E) → Ascending key_of xs → lookup key_of k xs ≡ Some e → p e ≡ false → lookup key_of k (keep p xs) ≡ None
   gone-left [] e a h t = absurd (none-some e (sym (lookup-none key_of k) ∙ h))
   gone-left (x ∷ xs) e a h t = go (tri (key_of x) k) (λ q. gone-left xs e a.1 q t) where
-    past : (key_of x ≡ k → ⊥) → (lookup key_of k xs ≡ some e → lookup key_of k (keep p xs) ≡ none) → lookup key_of k (keep p (x ∷ xs)) ≡ none
+    past : (key_of x ≡ k → ⊥) → (lookup key_of k xs ≡ Some e → lookup key_of k (keep p xs) ≡ None) → lookup key_of k (keep p (x ∷ xs)) ≡ None
     past n ih = other-left x xs n ∙ ih (sym (lookup-past key_of k x xs n) ∙ h)
 
-    go : Tri (key_of x) k → (lookup key_of k xs ≡ some e → lookup key_of k (keep p xs) ≡ none) → lookup key_of k (keep p (x ∷ xs)) ≡ none
+    go : Tri (key_of x) k → (lookup key_of k xs ≡ Some e → lookup key_of k (keep p xs) ≡ None) → lookup key_of k (keep p (x ∷ xs)) ≡ None
     go (lt q) ih = past (λ r. omega arith) ih
     go (eq q) ih =
         let s : x ≡ e = cc (lookup-here key_of k x xs q) in
@@ -114,10 +114,10 @@ module _ {E : Type 0} (key_of : E → ℕ) (p : E → Bool) (k : ℕ) where
     pub room-free : length xs < cap → leb (count_with key_of k (keep p xs)) cap ≡ true
     room-free h = le-leb (count_with key_of k (keep p xs)) cap (omega (arith, count_left xs, count_most xs))
 
-    pub room-there : (e : E) → length xs ≤ cap → lookup key_of k xs ≡ some e → leb (count_with key_of k (keep p xs)) cap ≡ true
+    pub room-there : (e : E) → length xs ≤ cap → lookup key_of k xs ≡ Some e → leb (count_with key_of k (keep p xs)) cap ≡ true
     room-there e h q = le-leb (count_with key_of k (keep p xs)) cap (omega (arith, count_left xs, count-with-found key_of k e xs q))
 
-    pub room-freed : length xs ≡ cap → lookup key_of k xs ≡ none → leb (count_with key_of k (keep p xs)) cap ≡ some_fits (λ x. not (p x)) xs
+    pub room-freed : length xs ≡ cap → lookup key_of k xs ≡ None → leb (count_with key_of k (keep p xs)) cap ≡ some_fits (λ x. not (p x)) xs
     room-freed h q = go (some_fits (λ x. not (p x)) xs) refl where
       more : count_with key_of k (keep p xs) ≡ suc (length (keep p xs))
       more = count-with-missing key_of k (keep p xs) (missing-left xs q)

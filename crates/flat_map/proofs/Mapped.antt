@@ -1,9 +1,9 @@
 -- Rows seen through a map that keeps their keys: put and remove commute with it, since they look at keys alone.
 -- And a put makes rows no fewer, and a row that is found has what each row has.
+use Rattle.std.specs.Prelude.{Some}
 use Prim.Native.Nat.{ℕ, zero, suc, ◌≤◌}
 use native.Mathlib.Omega.{arith}
 use mathlib.Core.List.{List, [], ◌∷◌, map}
-use mathlib.Core.Option.{some}
 use mathlib.Core.Path.{◌≡◌, refl, sym, ap, ◌∙◌, subst}
 use lib.ListN.{length, set}
 use Rattle.standard.specs.Ordered.{lookup, put, remove}
@@ -47,10 +47,10 @@ module _ {E : Type 0} (key_of : E → ℕ) where
     go (eq p) ih = rw (put-eq key_of e x xs p) (omega arith)
     go (gt p) ih = rw (put-gt key_of e x xs p) (omega arith)
 
-  pub each-found : (P : E → Type 0) (k : ℕ) (xs : List E) (x : E) → Each P xs → lookup key_of k xs ≡ some x → P x
+  pub each-found : (P : E → Type 0) (k : ℕ) (xs : List E) (x : E) → Each P xs → lookup key_of k xs ≡ Some x → P x
   each-found P k [] x e h = absurd (none-some x (sym (lookup-none key_of k) ∙ h))
   each-found P k (y ∷ xs) x e h = go (tri (key_of y) k) (λ q. each-found P k xs x e.1 q) where
-    go : Tri (key_of y) k → (lookup key_of k xs ≡ some x → P x) → P x
+    go : Tri (key_of y) k → (lookup key_of k xs ≡ Some x → P x) → P x
     go (lt p) ih = ih (sym (lookup-past key_of k y xs (λ q. omega arith)) ∙ h)
     go (eq p) ih = let s : y ≡ x = cc (lookup-here key_of k y xs p) in subst P s e.0
     go (gt p) ih = ih (sym (lookup-past key_of k y xs (λ q. omega arith)) ∙ h)

@@ -1,10 +1,10 @@
 -- Laws of rows in ascending order of their keys, once over the kind of row and its key.
 -- Each goes by how the key stands to the first row's: below, equal or above.
+use Rattle.std.specs.Prelude.{Some, None}
 use Prim.Native.Nat.{ℕ, suc, ◌<◌, ◌≤◌}
 use mathlib.Core.Path.{◌≡◌, refl, sym, ap, ◌∙◌, subst}
 use mathlib.Core.Bool.{Bool, true, false, cond}
 use mathlib.Core.List.{List, [], ◌∷◌, map}
-use mathlib.Core.Option.{none, some}
 use native.Mathlib.Omega.{arith}
 use lib.ListN.{length}
 use borrow.Author.Tests.{lt-ltb, le-ltb, eq-eqb, ne_eqb}
@@ -14,7 +14,7 @@ use Rattle.flat_map.proofs.Order.{before-trans}
 
 -- the definitions' clauses, by how two keys stand
 module _ {E : Type 0} (key_of : E → ℕ) where
-  pub lookup-here : (k : ℕ) (x : E) (xs : List E) → key_of x ≡ k → lookup key_of k (x ∷ xs) ≡ some x
+  pub lookup-here : (k : ℕ) (x : E) (xs : List E) → key_of x ≡ k → lookup key_of k (x ∷ xs) ≡ Some x
   unfolding lookup
   lookup-here k x xs h = rw (eq-eqb (key_of x) k h, lookup)
 
@@ -42,7 +42,7 @@ module _ {E : Type 0} (key_of : E → ℕ) where
   unfolding remove
   remove-past k x xs h = rw (ne_eqb (key_of x) k h, remove)
 
-  pub lookup-none : (k : ℕ) → lookup key_of k [] ≡ none
+  pub lookup-none : (k : ℕ) → lookup key_of k [] ≡ None
   unfolding lookup
   lookup-none k = refl
 
@@ -54,15 +54,15 @@ module _ {E : Type 0} (key_of : E → ℕ) where
   unfolding remove
   remove-none k = refl
 
-pub none-some : {E : Type 0} (x : E) → none ≡ some x → ⊥
+pub none-some : {E : Type 0} (x : E) → None ≡ Some x → ⊥
 none-some x e = let z : ◌≡◌ {A = ℕ} 0 1 = cc in omega arith
 
 module _ {E : Type 0} (key_of : E → ℕ) where
   -- what stands under a key after a put there
-  pub lookup-put-same : (e : E) (xs : List E) → lookup key_of (key_of e) (put key_of e xs) ≡ some e
+  pub lookup-put-same : (e : E) (xs : List E) → lookup key_of (key_of e) (put key_of e xs) ≡ Some e
   lookup-put-same e [] = rw (put-none key_of e) (lookup-here key_of (key_of e) e [] refl)
   lookup-put-same e (x ∷ xs) = go (tri (key_of e) (key_of x)) (lookup-put-same e xs) where
-    go : Tri (key_of e) (key_of x) → lookup key_of (key_of e) (put key_of e xs) ≡ some e → lookup key_of (key_of e) (put key_of e (x ∷ xs)) ≡ some e
+    go : Tri (key_of e) (key_of x) → lookup key_of (key_of e) (put key_of e xs) ≡ Some e → lookup key_of (key_of e) (put key_of e (x ∷ xs)) ≡ Some e
     go (lt p) ih = rw (put-lt key_of e x xs p) (lookup-here key_of (key_of e) e (x ∷ xs) refl)
     go (eq p) ih = rw (put-eq key_of e x xs p) (lookup-here key_of (key_of e) e xs refl)
     go (gt p) ih = rw (put-gt key_of e x xs p) (lookup-past key_of (key_of e) x (put key_of e xs) (λ q. omega arith) ∙ ih)
@@ -113,7 +113,7 @@ module _ {E : Type 0} (key_of : E → ℕ) where
     go (gt p) ih = simp (put-gt key_of f x xs p, put-gt key_of e x (put key_of f xs) (omega arith), put-gt key_of e x xs (omega arith), ih)
 
   -- a key below all of them is absent
-  pub lookup-below : (k : ℕ) (xs : List E) → Before k (map key_of xs) → Ascending key_of xs → lookup key_of k xs ≡ none
+  pub lookup-below : (k : ℕ) (xs : List E) → Before k (map key_of xs) → Ascending key_of xs → lookup key_of k xs ≡ None
   lookup-below k [] b a = lookup-none key_of k
   lookup-below k (x ∷ xs) b a =
       lookup-past key_of k x xs (λ e. omega arith) ∙ lookup-below k xs (before-trans k (key_of x) (map key_of xs) b a.0) a.1
@@ -156,13 +156,13 @@ module _ {E : Type 0} (key_of : E → ℕ) where
   ascending-pop (x ∷ xs) a = a.1
 
   -- what stands under a key after a removal there, and under any other
-  pub lookup-remove-same : (k : ℕ) (xs : List E) → Ascending key_of xs → lookup key_of k (remove key_of k xs) ≡ none
+  pub lookup-remove-same : (k : ℕ) (xs : List E) → Ascending key_of xs → lookup key_of k (remove key_of k xs) ≡ None
   lookup-remove-same k [] a = simp (remove-none key_of, lookup-none key_of)
   lookup-remove-same k (x ∷ xs) a = go (tri (key_of x) k) (lookup-remove-same k xs a.1) where
-    past : (key_of x ≡ k → ⊥) → lookup key_of k (remove key_of k xs) ≡ none → lookup key_of k (remove key_of k (x ∷ xs)) ≡ none
+    past : (key_of x ≡ k → ⊥) → lookup key_of k (remove key_of k xs) ≡ None → lookup key_of k (remove key_of k (x ∷ xs)) ≡ None
     past n ih = rw (remove-past key_of k x xs n) (lookup-past key_of k x (remove key_of k xs) n ∙ ih)
 
-    go : Tri (key_of x) k → lookup key_of k (remove key_of k xs) ≡ none → lookup key_of k (remove key_of k (x ∷ xs)) ≡ none
+    go : Tri (key_of x) k → lookup key_of k (remove key_of k xs) ≡ None → lookup key_of k (remove key_of k (x ∷ xs)) ≡ None
     go (lt p) ih = past (λ q. omega arith) ih
     go (eq p) ih = rw (remove-here key_of k x xs p) (lookup-below k xs (subst (λ (j : ℕ). Before j (map key_of xs)) p a.0) a.1)
     go (gt p) ih = past (λ q. omega arith) ih
@@ -184,19 +184,19 @@ module _ {E : Type 0} (key_of : E → ℕ) where
     go (gt p) t ih = kept (λ q. omega arith) t ih
 
   -- a row found stands under the key looked for
-  pub lookup_key : (k : ℕ) (xs : List E) (e : E) → lookup key_of k xs ≡ some e → key_of e ≡ k
+  pub lookup_key : (k : ℕ) (xs : List E) (e : E) → lookup key_of k xs ≡ Some e → key_of e ≡ k
   lookup_key k [] e h = absurd (none-some e (sym (lookup-none key_of k) ∙ h))
   lookup_key k (x ∷ xs) e h = go (tri (key_of x) k) (λ q. lookup_key k xs e q) where
-    go : Tri (key_of x) k → (lookup key_of k xs ≡ some e → key_of e ≡ k) → key_of e ≡ k
+    go : Tri (key_of x) k → (lookup key_of k xs ≡ Some e → key_of e ≡ k) → key_of e ≡ k
     go (lt p) ih = ih (sym (lookup-past key_of k x xs (λ q. omega arith)) ∙ h)
     go (eq p) ih = let s : x ≡ e = cc (lookup-here key_of k x xs p) in ap key_of (sym s) ∙ p
     go (gt p) ih = ih (sym (lookup-past key_of k x xs (λ q. omega arith)) ∙ h)
 
   -- to put what is there changes nothing
-  pub put_id : (e : E) (xs : List E) → Ascending key_of xs → lookup key_of (key_of e) xs ≡ some e → put key_of e xs ≡ xs
+  pub put_id : (e : E) (xs : List E) → Ascending key_of xs → lookup key_of (key_of e) xs ≡ Some e → put key_of e xs ≡ xs
   put_id e [] a h = absurd (none-some e (sym (lookup-none key_of (key_of e)) ∙ h))
   put_id e (x ∷ xs) a h = go (tri (key_of e) (key_of x)) (λ q. put_id e xs a.1 q) where
-    go : Tri (key_of e) (key_of x) → (lookup key_of (key_of e) xs ≡ some e → put key_of e xs ≡ xs) → put key_of e (x ∷ xs) ≡ x ∷ xs
+    go : Tri (key_of e) (key_of x) → (lookup key_of (key_of e) xs ≡ Some e → put key_of e xs ≡ xs) → put key_of e (x ∷ xs) ≡ x ∷ xs
     go (lt p) ih = absurd (none-some e (sym (lookup-below (key_of e) (x ∷ xs) p a) ∙ h))
     go (eq p) ih = let s : x ≡ e = cc (lookup-here key_of (key_of e) x xs (sym p)) in put-eq key_of e x xs p ∙ ap {B = List E} (λ y. y ∷ xs) (sym s)
     go (gt p) ih = rw (put-gt key_of e x xs p) (ap {B = List E} (λ r. x ∷ r) (ih (sym (lookup-past key_of (key_of e) x xs (λ q. omega arith)) ∙ h)))
@@ -223,26 +223,26 @@ module _ {E : Type 0} (key_of : E → ℕ) where
         cc
 
   -- how many rows there are once there is one under a key
-  pub count-with-missing : (k : ℕ) (xs : List E) → lookup key_of k xs ≡ none → count_with key_of k xs ≡ suc (length xs)
+  pub count-with-missing : (k : ℕ) (xs : List E) → lookup key_of k xs ≡ None → count_with key_of k xs ≡ suc (length xs)
   unfolding count_with
   count-with-missing k [] h = refl
   count-with-missing k (x ∷ xs) h = go (tri (key_of x) k) (λ q. count-with-missing k xs q) where
-    past : (key_of x ≡ k → ⊥) → (lookup key_of k xs ≡ none → count_with key_of k xs ≡ suc (length xs)) → count_with key_of k (x ∷ xs) ≡ suc (suc (length xs))
+    past : (key_of x ≡ k → ⊥) → (lookup key_of k xs ≡ None → count_with key_of k xs ≡ suc (length xs)) → count_with key_of k (x ∷ xs) ≡ suc (suc (length xs))
     past n ih = rw (ne_eqb (key_of x) k n, count_with) (ap suc (ih (sym (lookup-past key_of k x xs n) ∙ h)))
 
-    go : Tri (key_of x) k → (lookup key_of k xs ≡ none → count_with key_of k xs ≡ suc (length xs)) → count_with key_of k (x ∷ xs) ≡ suc (suc (length xs))
+    go : Tri (key_of x) k → (lookup key_of k xs ≡ None → count_with key_of k xs ≡ suc (length xs)) → count_with key_of k (x ∷ xs) ≡ suc (suc (length xs))
     go (lt p) ih = past (λ q. omega arith) ih
     go (eq p) ih = absurd (none-some x (sym h ∙ lookup-here key_of k x xs p))
     go (gt p) ih = past (λ q. omega arith) ih
 
-  pub count-with-found : (k : ℕ) (d : E) (xs : List E) → lookup key_of k xs ≡ some d → count_with key_of k xs ≡ length xs
+  pub count-with-found : (k : ℕ) (d : E) (xs : List E) → lookup key_of k xs ≡ Some d → count_with key_of k xs ≡ length xs
   unfolding count_with
   count-with-found k d [] h = absurd (none-some d (sym (lookup-none key_of k) ∙ h))
   count-with-found k d (x ∷ xs) h = go (tri (key_of x) k) (λ q. count-with-found k d xs q) where
-    past : (key_of x ≡ k → ⊥) → (lookup key_of k xs ≡ some d → count_with key_of k xs ≡ length xs) → count_with key_of k (x ∷ xs) ≡ suc (length xs)
+    past : (key_of x ≡ k → ⊥) → (lookup key_of k xs ≡ Some d → count_with key_of k xs ≡ length xs) → count_with key_of k (x ∷ xs) ≡ suc (length xs)
     past n ih = rw (ne_eqb (key_of x) k n, count_with) (ap suc (ih (sym (lookup-past key_of k x xs n) ∙ h)))
 
-    go : Tri (key_of x) k → (lookup key_of k xs ≡ some d → count_with key_of k xs ≡ length xs) → count_with key_of k (x ∷ xs) ≡ suc (length xs)
+    go : Tri (key_of x) k → (lookup key_of k xs ≡ Some d → count_with key_of k xs ≡ length xs) → count_with key_of k (x ∷ xs) ≡ suc (length xs)
     go (lt p) ih = past (λ q. omega arith) ih
     go (eq p) ih = rw (eq-eqb (key_of x) k p, count_with)
     go (gt p) ih = past (λ q. omega arith) ih

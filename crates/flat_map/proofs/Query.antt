@@ -1,12 +1,12 @@
 -- A loop over the rows has still to do the rest, `drop i rows`: one law takes the next row off the rest, one ends it,
 -- and so each question's answer over the rest is followed down to the last row.
+use Rattle.std.specs.Prelude.{Some, None}
 use Prim.Native.Nat.{ℕ, zero, suc, ◌+◌, ◌<◌, ◌≤◌}
 use native.Mathlib.Numerals.{add-one}
 use native.Mathlib.Nat.{le_of_suc-le-suc, not-suc-le-zero}
 use native.Mathlib.Omega.{arith}
 use mathlib.Core.Bool.{Bool, true, false, cond}
 use mathlib.Core.List.{List, [], ◌∷◌, ◌++◌}
-use mathlib.Core.Option.{none, some}
 use mathlib.Core.Path.{◌≡◌, refl, sym, ap, ◌∙◌}
 use lib.ListN.{length, get_or, take, drop, set, drop_of_length-le}
 use lib.Seq.{drop-cons, length-take-le, get_or-take}
@@ -51,30 +51,30 @@ module _ {E : Type 0} (cap : ℕ) (key_of : E → ℕ) (blank : E) (keys : List 
 
 -- the entry at a place: the row there, or nothing from the count on
 module _ {E : Type 0} (d : E) where
-  pub entry-there : (xs : List E) (i : ℕ) → i < length xs → entry_at i xs ≡ some (get_or xs i d)
+  pub entry-there : (xs : List E) (i : ℕ) → i < length xs → entry_at i xs ≡ Some (get_or xs i d)
   unfolding entry_at
   entry-there [] i h = absurd (not-suc-le-zero h)
   entry-there (x ∷ xs) zero h = refl
   entry-there (x ∷ xs) (suc i) h = entry-there xs i (le_of_suc-le-suc h)
 
-  pub entry_past : (xs : List E) (i : ℕ) → length xs ≤ i → entry_at i xs ≡ none
+  pub entry_past : (xs : List E) (i : ℕ) → length xs ≤ i → entry_at i xs ≡ None
   unfolding entry_at
   entry_past [] i h = refl
   entry_past (x ∷ xs) zero h = absurd (not-suc-le-zero h)
   entry_past (x ∷ xs) (suc i) h = entry_past xs i (le_of_suc-le-suc h)
 
 module _ {E : Type 0} (cap : ℕ) (key_of : E → ℕ) (blank : E) (keys : List ℕ) (entries : List E) (count : ℕ) (f : Formed cap key_of blank keys entries count) (i : ℕ) where
-  pub entry-in-use : i < count → entry_at i (take count entries) ≡ some (get_or entries i blank)
+  pub entry-in-use : i < count → entry_at i (take count entries) ≡ Some (get_or entries i blank)
   entry-in-use h =
       entry-there blank (take count entries) i (omega (arith, rows-length cap key_of blank keys entries count f))
-      ∙ ap some (sym (row-at cap key_of blank keys entries count f i h))
+      ∙ ap Some (sym (row-at cap key_of blank keys entries count f i h))
 
-  pub entry-not-in-use : count ≤ i → entry_at i (take count entries) ≡ none
+  pub entry-not-in-use : count ≤ i → entry_at i (take count entries) ≡ None
   entry-not-in-use h = entry_past blank (take count entries) i (omega (arith, rows-length cap key_of blank keys entries count f))
 
 -- each question over a list whose first row fits, or does not, or that is at its end
 module _ {E : Type 0} (fits : E → Bool) where
-  pub first-here : {xs rest : List E} {x : E} → xs ≡ x ∷ rest → fits x ≡ true → first fits xs ≡ some x
+  pub first-here : {xs rest : List E} {x : E} → xs ≡ x ∷ rest → fits x ≡ true → first fits xs ≡ Some x
   unfolding first
   first-here e t = rw (e, t, first)
 
@@ -82,7 +82,7 @@ module _ {E : Type 0} (fits : E → Bool) where
   unfolding first
   first_past e t = rw (e, t, first)
 
-  pub first_done : {xs : List E} → xs ≡ [] → first fits xs ≡ none
+  pub first_done : {xs : List E} → xs ≡ [] → first fits xs ≡ None
   unfolding first
   first_done e = rw e
 
@@ -144,13 +144,13 @@ module _ {E : Type 0} (fits : E → Bool) where
     change-none f [] b = refl
     change-none f (x ∷ xs) b = rw (b 0 (omega arith), change_first) (cons x (change-none f xs (tail_none x xs (length xs) b)))
 
-    pub first-at : (xs : List E) (i : ℕ) → i < length xs → NoneBefore xs i → fits (get_or xs i d) ≡ true → first fits xs ≡ some (get_or xs i d)
+    pub first-at : (xs : List E) (i : ℕ) → i < length xs → NoneBefore xs i → fits (get_or xs i d) ≡ true → first fits xs ≡ Some (get_or xs i d)
     unfolding first
     first-at [] i h b t = absurd (not-suc-le-zero h)
     first-at (x ∷ xs) zero h b t = rw (t, first)
     first-at (x ∷ xs) (suc i) h b t = rw (b 0 (omega arith), first) (first-at xs i (le_of_suc-le-suc h) (tail_none x xs i b) t)
 
-    pub first-none : (xs : List E) → NoneBefore xs (length xs) → first fits xs ≡ none
+    pub first-none : (xs : List E) → NoneBefore xs (length xs) → first fits xs ≡ None
     unfolding first
     first-none [] b = refl
     first-none (x ∷ xs) b = rw (b 0 (omega arith), first) (first-none xs (tail_none x xs (length xs) b))

@@ -1,17 +1,15 @@
 -- A well-formed table is its rows, padded with blanks; and what the steps on the two arrays do to the rows.
 -- Once over the capacity, the kind of entry, its key and the blank entry.
+use Rattle.std.specs.Prelude.{Some, None, Result, Ok, Err}
 use Prim.Native.Nat.{ℕ, zero, suc, ◌+◌, ◌-◌, ◌<◌, ◌≤◌, zero-le}
 use native.Mathlib.Numerals.{add-one}
 use native.Mathlib.Omega.{arith}
 use mathlib.Core.Bool.{Bool, true, false}
 use mathlib.Core.List.{List, [], ◌∷◌, map}
-use mathlib.Core.Option.{none, some}
 use mathlib.Core.Path.{◌≡◌, refl, sym, ap, ◌∙◌, subst}
 use lib.ListN.{length, take, get_or, set, length-set, length-map, get_or-map}
 use lib.Seq.{map-set_same, ext_get_or, length-take-le, get_or-take}
 use Rattle.standard.specs.Ordered.{Asc, Ascending, lookup, put, remove, keep}
-use Rattle.flat_map.specs.declared.Place.{Place}
-use Rattle.flat_map.specs.declared.Place.TheVariants.{Found, Missing}
 use Rattle.flat_map.specs.Seek.{place_of}
 use Rattle.flat_map.specs.Shift.{shift_in, shift_out}
 use Rattle.flat_map.specs.Rows.{pad, insert_at, remove_at, keep_from, map_first}
@@ -25,49 +23,49 @@ use Rattle.flat_map.proofs.Rows.{cons, length-pad, shift-in-pad, shift-out-pad, 
 
 -- a place found in the keys, read as a step on the rows
 module _ {E : Type 0} (key_of : E → ℕ) (blank : E) where
-  tail-found : (x : E) (xs : List E) (k i : ℕ) → Placed (map key_of (x ∷ xs)) k (Found (suc i)) → Placed (map key_of xs) k (Found i)
+  tail-found : (x : E) (xs : List E) (k i : ℕ) → Placed (map key_of (x ∷ xs)) k (Ok (suc i)) → Placed (map key_of xs) k (Ok i)
   tail-found x xs k i p = (omega (arith, p.0), p.1, λ n l. p.2 (suc n) (omega arith))
 
-  tail-missing : (x : E) (xs : List E) (k i : ℕ) → Placed (map key_of (x ∷ xs)) k (Missing (suc i)) → Placed (map key_of xs) k (Missing i)
+  tail-missing : (x : E) (xs : List E) (k i : ℕ) → Placed (map key_of (x ∷ xs)) k (Err (suc i)) → Placed (map key_of xs) k (Err i)
   tail-missing x xs k i p = (omega (arith, p.0), (λ l. p.1 (omega arith)), λ n l. p.2 (suc n) (omega arith))
 
-  pub lookup-found : (xs : List E) (k i : ℕ) → Placed (map key_of xs) k (Found i) → lookup key_of k xs ≡ some (get_or xs i blank)
+  pub lookup-found : (xs : List E) (k i : ℕ) → Placed (map key_of xs) k (Ok i) → lookup key_of k xs ≡ Some (get_or xs i blank)
   lookup-found [] k i p = absurd (omega (arith, p.0))
   lookup-found (x ∷ xs) k zero p = lookup-here key_of k x xs p.1
   lookup-found (x ∷ xs) k (suc i) p =
       lookup-past key_of k x xs (λ e. omega (arith, p.2 0 (omega arith))) ∙ lookup-found xs k i (tail-found x xs k i p)
 
-  pub lookup-missing : (xs : List E) (k i : ℕ) → Ascending key_of xs → Placed (map key_of xs) k (Missing i) → lookup key_of k xs ≡ none
+  pub lookup-missing : (xs : List E) (k i : ℕ) → Ascending key_of xs → Placed (map key_of xs) k (Err i) → lookup key_of k xs ≡ None
   lookup-missing [] k i a p = lookup-none key_of k
   lookup-missing (x ∷ xs) k zero a p = lookup-below key_of k (x ∷ xs) (p.1 (omega arith)) a
   lookup-missing (x ∷ xs) k (suc i) a p =
       lookup-past key_of k x xs (λ e. omega (arith, p.2 0 (omega arith))) ∙ lookup-missing xs k i a.1 (tail-missing x xs k i p)
 
-  pub put-found : (e : E) (xs : List E) (i : ℕ) → Placed (map key_of xs) (key_of e) (Found i) → put key_of e xs ≡ set xs i e
+  pub put-found : (e : E) (xs : List E) (i : ℕ) → Placed (map key_of xs) (key_of e) (Ok i) → put key_of e xs ≡ set xs i e
   put-found e [] i p = absurd (omega (arith, p.0))
   put-found e (x ∷ xs) zero p = put-eq key_of e x xs (sym p.1)
   put-found e (x ∷ xs) (suc i) p = put-gt key_of e x xs (p.2 0 (omega arith)) ∙ cons x (put-found e xs i (tail-found x xs (key_of e) i p))
 
-  pub put-missing : (e : E) (xs : List E) (i : ℕ) → Placed (map key_of xs) (key_of e) (Missing i) → put key_of e xs ≡ insert_at i e xs
+  pub put-missing : (e : E) (xs : List E) (i : ℕ) → Placed (map key_of xs) (key_of e) (Err i) → put key_of e xs ≡ insert_at i e xs
   put-missing e [] zero p = put-none key_of e
   put-missing e [] (suc i) p = absurd (omega (arith, p.0))
   put-missing e (x ∷ xs) zero p = put-lt key_of e x xs (p.1 (omega arith))
   put-missing e (x ∷ xs) (suc i) p = put-gt key_of e x xs (p.2 0 (omega arith)) ∙ cons x (put-missing e xs i (tail-missing x xs (key_of e) i p))
 
-  pub remove-found : (k : ℕ) (xs : List E) (i : ℕ) → Placed (map key_of xs) k (Found i) → remove key_of k xs ≡ remove_at i xs
+  pub remove-found : (k : ℕ) (xs : List E) (i : ℕ) → Placed (map key_of xs) k (Ok i) → remove key_of k xs ≡ remove_at i xs
   remove-found k [] i p = absurd (omega (arith, p.0))
   remove-found k (x ∷ xs) zero p = remove-here key_of k x xs p.1
   remove-found k (x ∷ xs) (suc i) p =
       remove-past key_of k x xs (λ e. omega (arith, p.2 0 (omega arith))) ∙ cons x (remove-found k xs i (tail-found x xs k i p))
 
   -- a key that is not there is not taken out
-  pub remove_absent : (k : ℕ) (xs : List E) → lookup key_of k xs ≡ none → remove key_of k xs ≡ xs
+  pub remove_absent : (k : ℕ) (xs : List E) → lookup key_of k xs ≡ None → remove key_of k xs ≡ xs
   remove_absent k [] h = remove-none key_of k
   remove_absent k (x ∷ xs) h = go (tri (key_of x) k) (λ q. remove_absent k xs q) where
-    past : (key_of x ≡ k → ⊥) → (lookup key_of k xs ≡ none → remove key_of k xs ≡ xs) → remove key_of k (x ∷ xs) ≡ x ∷ xs
+    past : (key_of x ≡ k → ⊥) → (lookup key_of k xs ≡ None → remove key_of k xs ≡ xs) → remove key_of k (x ∷ xs) ≡ x ∷ xs
     past n ih = remove-past key_of k x xs n ∙ cons x (ih (sym (lookup-past key_of k x xs n) ∙ h))
 
-    go : Tri (key_of x) k → (lookup key_of k xs ≡ none → remove key_of k xs ≡ xs) → remove key_of k (x ∷ xs) ≡ x ∷ xs
+    go : Tri (key_of x) k → (lookup key_of k xs ≡ None → remove key_of k xs ≡ xs) → remove key_of k (x ∷ xs) ≡ x ∷ xs
     go (lt p) ih = past (λ e. omega arith) ih
     go (eq p) ih = absurd (none-some x (sym h ∙ lookup-here key_of k x xs p))
     go (gt p) ih = past (λ e. omega arith) ih
@@ -113,27 +111,27 @@ module _ {E : Type 0} (cap : ℕ) (key_of : E → ℕ) (blank : E) (keys : List 
   pub fit : Fit cap key_of blank (take count entries)
   fit = record { small = omega (arith, rows-length, f.small); ascending = subst Asc keys-rows keys-ascend }
 
-  placed-rows : (k : ℕ) (p : Place) → p ≡ place_of (take count keys) k → Placed (map key_of (take count entries)) k p
+  placed-rows : (k : ℕ) (p : Result ℕ ℕ) → p ≡ place_of (take count keys) k → Placed (map key_of (take count entries)) k p
   placed-rows k p e = subst (λ (ks : List ℕ). Placed ks k p) keys-rows (placed_at (take count keys) k p e)
 
   row_count : length (map key_of (take count entries)) ≡ count
   row_count = length-map (take count entries) key_of ∙ rows-length
 
   -- what a look-up in the keys says of the rows
-  pub found_within : (k i : ℕ) → Found i ≡ place_of (take count keys) k → i < count
-  found_within k i e = omega (arith, (placed-rows k (Found i) e).0, row_count)
+  pub found_within : (k i : ℕ) → Ok i ≡ place_of (take count keys) k → i < count
+  found_within k i e = omega (arith, (placed-rows k (Ok i) e).0, row_count)
 
-  pub found-row : (k i : ℕ) → Found i ≡ place_of (take count keys) k → lookup key_of k (take count entries) ≡ some (get_or entries i blank)
-  found-row k i e = lookup-found key_of blank (take count entries) k i (placed-rows k (Found i) e) ∙ ap some (sym (row-at i (found_within k i e)))
+  pub found-row : (k i : ℕ) → Ok i ≡ place_of (take count keys) k → lookup key_of k (take count entries) ≡ Some (get_or entries i blank)
+  found-row k i e = lookup-found key_of blank (take count entries) k i (placed-rows k (Ok i) e) ∙ ap Some (sym (row-at i (found_within k i e)))
 
-  pub missing-within : (k i : ℕ) → Missing i ≡ place_of (take count keys) k → i ≤ count
-  missing-within k i e = omega (arith, (placed-rows k (Missing i) e).0, row_count)
+  pub missing-within : (k i : ℕ) → Err i ≡ place_of (take count keys) k → i ≤ count
+  missing-within k i e = omega (arith, (placed-rows k (Err i) e).0, row_count)
 
-  pub missing-row : (k i : ℕ) → Missing i ≡ place_of (take count keys) k → lookup key_of k (take count entries) ≡ none
-  missing-row k i e = lookup-missing key_of blank (take count entries) k i fit.ascending (placed-rows k (Missing i) e)
+  pub missing-row : (k i : ℕ) → Err i ≡ place_of (take count keys) k → lookup key_of k (take count entries) ≡ None
+  missing-row k i e = lookup-missing key_of blank (take count entries) k i fit.ascending (placed-rows k (Err i) e)
 
   -- an entry put in where its key is missing, one stored over that of its key, one taken out
-  pub inserted : (e : E) (i : ℕ) → Missing i ≡ place_of (take count keys) (key_of e) → count < cap
+  pub inserted : (e : E) (i : ℕ) → Err i ≡ place_of (take count keys) (key_of e) → count < cap
       → Holds cap key_of blank (shift_in i (key_of e) keys) (shift_in i e entries) (count + 1) (put key_of e (take count entries))
   inserted e i p l = record {
     keys-are =
@@ -153,9 +151,9 @@ module _ {E : Type 0} (cap : ℕ) (key_of : E → ℕ) (blank : E) (keys : List 
     within = missing-within (key_of e) i p
 
     is : put key_of e (take count entries) ≡ insert_at i e (take count entries)
-    is = put-missing key_of blank e (take count entries) i (placed-rows (key_of e) (Missing i) p)
+    is = put-missing key_of blank e (take count entries) i (placed-rows (key_of e) (Err i) p)
 
-  pub replaced : (e : E) (i : ℕ) → Found i ≡ place_of (take count keys) (key_of e)
+  pub replaced : (e : E) (i : ℕ) → Ok i ≡ place_of (take count keys) (key_of e)
       → Holds cap key_of blank keys (set entries i e) count (put key_of e (take count entries))
   replaced e i p = record {
     keys-are = view.keys-are ∙ ap (pad cap 0) (sym (map-set_same key_of (take count entries) i e blank own) ∙ ap (map key_of) (sym is));
@@ -165,8 +163,8 @@ module _ {E : Type 0} (cap : ℕ) (key_of : E → ℕ) (blank : E) (keys : List 
         ∙ ap (pad cap blank) (sym is);
     count-is = sym rows-length ∙ sym (length-set (take count entries) i e) ∙ ap length (sym is);
   } where
-    at : Placed (map key_of (take count entries)) (key_of e) (Found i)
-    at = placed-rows (key_of e) (Found i) p
+    at : Placed (map key_of (take count entries)) (key_of e) (Ok i)
+    at = placed-rows (key_of e) (Ok i) p
 
     own : key_of e ≡ key_of (get_or (take count entries) i blank)
     own = sym at.1 ∙ any-default (map key_of (take count entries)) i 0 (key_of blank) at.0 ∙ get_or-map key_of (take count entries) i blank
@@ -187,11 +185,11 @@ module _ {E : Type 0} (cap : ℕ) (key_of : E → ℕ) (blank : E) (keys : List 
     count-is = omega (arith, rows-length, length-remove_at i (take count entries) (omega (arith, rows-length)));
   }
 
-  pub removed : (k i : ℕ) → Found i ≡ place_of (take count keys) k
+  pub removed : (k i : ℕ) → Ok i ≡ place_of (take count keys) k
       → Holds cap key_of blank (shift_out i 0 keys) (shift_out i blank entries) (count - 1) (remove key_of k (take count entries))
   removed k i p =
       subst (Holds cap key_of blank (shift_out i 0 keys) (shift_out i blank entries) (count - 1))
-      (sym (remove-found key_of blank k (take count entries) i (placed-rows k (Found i) p)))
+      (sym (remove-found key_of blank k (take count entries) i (placed-rows k (Ok i) p)))
       (taken_out i (found_within k i p))
 
   -- every entry in use changed, its key left

@@ -5,15 +5,8 @@ ghost use Rattle.std.specs.Prelude.{◌≤◌, length, take, ◌≡◌};
 ghost use Rattle.flat_map.specs.Seek.{place_of};
 ghost use Rattle.flat_map.specs.Table.{Rising};
 
-// Where a key stands, or where it would stand.
-#[derive(Clone, Copy)]
-pub enum Place {
-    Found(usize),
-    Missing(usize),
-}
-
 // The place of `key` among the first `count` of `keys`, by halving.
-pub fn index_of(keys: &[u64], count: usize, key: u64) -> Place
+pub fn index_of(keys: &[u64], count: usize, key: u64) -> Result<usize, usize>
     requires { (count ≤ length keys.now) × Rising keys.now count }
     ensures { result ≡ place_of (take count keys.now) key }
 {
@@ -23,7 +16,7 @@ pub fn index_of(keys: &[u64], count: usize, key: u64) -> Place
         let middle = low + (high - low) / 2;
         let k = keys[middle];
         if k == key {
-            return Place::Found(middle);
+            return Ok(middle);
         }
         if k < key {
             low = middle + 1;
@@ -31,5 +24,5 @@ pub fn index_of(keys: &[u64], count: usize, key: u64) -> Place
             high = middle;
         }
     }
-    Place::Missing(low)
+    Err(low)
 }

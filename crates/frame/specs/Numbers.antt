@@ -1,7 +1,7 @@
 -- The number of each case of a header's enums, and a header as the numbers that a script writes.
 -- 05-3474, section 3.3.1.1: frame type 0, 1 and 3, discover route 0, 1 and 2.
 -- Assumes nothing.
-use Rattle.std.specs.Prelude.{ℕ, Bool, true, false, List, [], ◌∷◌, ◌++◌, map, take}
+use Rattle.std.specs.Prelude.{ℕ, Bool, true, false, List, [], ◌∷◌, ◌++◌, map, take, Option, Some, None}
 use Rattle.types.specs.declared.Nwk.{Nwk}
 use Rattle.numbers.specs.Said.{flag_number}
 use Rattle.frame.specs.declared.NwkFrameType.{NwkFrameType}
@@ -9,12 +9,9 @@ use Rattle.frame.specs.declared.NwkFrameType.TheVariants.{Data, Command, Interpa
 use Rattle.frame.specs.declared.NwkRouteDiscovery.{NwkRouteDiscovery}
 use Rattle.frame.specs.declared.NwkRouteDiscovery.TheVariants.{Suppress, Enable, WithMulticast}
 use Rattle.frame.specs.declared.NwkFrameControl.{NwkFrameControl}
-use Rattle.frame.specs.declared.OptionalEui64.{OptionalEui64}
-use Rattle.frame.specs.declared.OptionalEui64.TheVariants as name
-use Rattle.frame.specs.declared.OptionalByte.{OptionalByte}
-use Rattle.frame.specs.declared.OptionalByte.TheVariants as byte
 use Rattle.frame.specs.declared.NwkSourceRoute.{NwkSourceRoute}
 use Rattle.frame.specs.declared.NwkHeader.{NwkHeader}
+use Rattle.types.specs.declared.Eui64.{Eui64}
 
 abbrev pub frame_type_number : NwkFrameType → ℕ
 frame_type_number Data = 0
@@ -27,13 +24,13 @@ discovery_number Enable = 1
 discovery_number WithMulticast = 2
 
 -- 0 for none, else 1 and the value
-abbrev pub name_numbers : OptionalEui64 → List ℕ
-name_numbers name.Absent = 0 ∷ []
-name_numbers (name.Present e) = 1 ∷ e.0 ∷ []
+abbrev pub name_numbers : Option Eui64 → List ℕ
+name_numbers None = 0 ∷ []
+name_numbers (Some e) = 1 ∷ e.0 ∷ []
 
-abbrev pub byte_numbers : OptionalByte → List ℕ
-byte_numbers byte.Absent = 0 ∷ []
-byte_numbers (byte.Present b) = 1 ∷ b ∷ []
+abbrev pub byte_numbers : Option ℕ → List ℕ
+byte_numbers None = 0 ∷ []
+byte_numbers (Some b) = 1 ∷ b ∷ []
 
 abbrev pub control_numbers : NwkFrameControl → List ℕ
 control_numbers k =

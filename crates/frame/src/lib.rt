@@ -9,15 +9,15 @@ use standard::RelayList;
 use types::{Eui64, Nwk};
 
 // What a frame carries; 2 is no type.
-#[derive(Clone, Copy)]
+#[derive(Clone, Copy, Debug, PartialEq, Eq)]
 pub enum NwkFrameType {
-    Data,
-    Command,
-    Interpan,
+    Data = 0,
+    Command = 1,
+    Interpan = 3,
 }
 
 // Whether a route may be discovered for a frame.
-#[derive(Clone, Copy)]
+#[derive(Clone, Copy, Debug, PartialEq, Eq)]
 pub enum NwkRouteDiscovery {
     Suppress,
     Enable,
@@ -39,20 +39,6 @@ pub struct NwkFrameControl {
     pub reserved1: u8,
 }
 
-// An extended address that a header may have.
-#[derive(Clone, Copy)]
-pub enum OptionalEui64 {
-    Absent,
-    Present(Eui64),
-}
-
-// A byte that a header may have.
-#[derive(Clone, Copy)]
-pub enum OptionalByte {
-    Absent,
-    Present(u8),
-}
-
 // The relays of a source route, the one next to the destination first, and the place of the relay that is to come.
 #[derive(Clone, Copy)]
 pub struct NwkSourceRoute {
@@ -68,9 +54,9 @@ pub struct NwkHeader {
     pub source: Nwk,
     pub radius: u8,
     pub sequence_number: u8,
-    pub destination_ieee: OptionalEui64,
-    pub source_ieee: OptionalEui64,
-    pub multicast_control: OptionalByte,
+    pub destination_ieee: Option<Eui64>,
+    pub source_ieee: Option<Eui64>,
+    pub multicast_control: Option<u8>,
     pub has_source_route: bool,
     pub source_route: NwkSourceRoute,
 }
@@ -80,11 +66,7 @@ impl NwkFrameType {
     pub fn number(self) -> u8
         ensures { result ≡ frame_type_number self }
     {
-        match self {
-            NwkFrameType::Data => 0,
-            NwkFrameType::Command => 1,
-            NwkFrameType::Interpan => 3,
-        }
+        self as u8
     }
 }
 
@@ -93,22 +75,14 @@ impl NwkRouteDiscovery {
     pub fn number(self) -> u8
         ensures { result ≡ discovery_number self }
     {
-        match self {
-            NwkRouteDiscovery::Suppress => 0,
-            NwkRouteDiscovery::Enable => 1,
-            NwkRouteDiscovery::WithMulticast => 2,
-        }
+        self as u8
     }
 
     // Whether no route may be discovered.
     pub fn is_suppressed(self) -> bool
         ensures { result ≡ is_suppressed self }
     {
-        match self {
-            NwkRouteDiscovery::Suppress => true,
-            NwkRouteDiscovery::Enable => false,
-            NwkRouteDiscovery::WithMulticast => false,
-        }
+        self == NwkRouteDiscovery::Suppress
     }
 }
 

@@ -9,9 +9,7 @@ ghost use Rattle.neighbor_columns.specs.Lent.{Asked};
 ghost use Rattle.neighbor_queries_lent.specs.Read.{InUse, lent_words};
 ghost use Rattle.hop_choice.specs.Choice.{host_choice, undiscovered, hinted, hopped, routed, record_says, tabled, chosen};
 
-use flat_map::Place;
 use neighbor_queries::Filter;
-use route_calls::HopAnswer;
 use types::{Nwk, Refusal};
 
 // A route that the host names: a hop, or the relays beside it.
@@ -58,7 +56,6 @@ pub enum RecordSays {
 // The way that is chosen: to a hop with the header as it came, or with a source route set in it: the relays of the record in a row, or the host's.
 #[derive(Drop)]
 pub enum Choice {
-    Refused(Refusal),
     Hop(Nwk),
     ByRecord(usize),
     ByHost,
@@ -67,34 +64,34 @@ pub enum Choice {
 }
 
 // A host route is applied; an empty source route is refused.
-fn by_host_route(route: HostRoute, relays: usize) -> Choice
+fn by_host_route(route: HostRoute, relays: usize) -> Result<Choice, Refusal>
     ensures { result ≡ host_choice relays route }
 {
     match route {
-        HostRoute::NextHop(next) => Choice::Hop(next),
+        HostRoute::NextHop(next) => Ok(Choice::Hop(next)),
         HostRoute::SourceRoute => {
             if relays == 0 {
-                Choice::Refused(Refusal::EmptySourceRoute)
+                Err(Refusal::EmptySourceRoute)
             } else {
-                Choice::ByHost
+                Ok(Choice::ByHost)
             }
         }
     }
 }
 
 // No way is known: the frame waits for discovery, or is given up where discovery is suppressed.
-fn unknown_way(suppressed: bool) -> Choice
+fn unknown_way(suppressed: bool) -> Result<Choice, Refusal>
     ensures { result ≡ undiscovered suppressed }
 {
     if suppressed {
-        Choice::Discard
+        Ok(Choice::Discard)
     } else {
-        Choice::NeedDiscovery
+        Ok(Choice::NeedDiscovery)
     }
 }
 
 // The hint.
-fn by_hint(directive: RouteDirective, relays: usize, suppressed: bool) -> Choice
+fn by_hint(directive: RouteDirective, relays: usize, suppressed: bool) -> Result<Choice, Refusal>
     ensures { result ≡ hinted relays suppressed directive }
 {
     match directive {
@@ -105,13 +102,18 @@ fn by_hint(directive: RouteDirective, relays: usize, suppressed: bool) -> Choice
 }
 
 // What the look-up of the Active route found.
-fn by_hop(found: HopAnswer, directive: RouteDirective, relays: usize, suppressed: bool) -> Choice
+fn by_hop(
+    found: Result<Option<Nwk>, Refusal>,
+    directive: RouteDirective,
+    relays: usize,
+    suppressed: bool,
+) -> Result<Choice, Refusal>
     ensures { result ≡ hopped relays suppressed directive found }
 {
     match found {
-        HopAnswer::NoRoute => by_hint(directive, relays, suppressed),
-        HopAnswer::Hop(next) => Choice::Hop(next),
-        HopAnswer::Unknown => Choice::Refused(Refusal::UnknownNextHop),
+        Ok(None) => by_hint(directive, relays, suppressed),
+        Ok(Some(next)) => Ok(Choice::Hop(next)),
+        Err(why) => Err(why),
     }
 }
 
@@ -126,7 +128,7 @@ fn by_route(
     relays: usize,
     suppressed: bool,
     policy: Policy,
-) -> Choice
+) -> Result<Choice, Refusal>
     requires { route.WellFormed (route.in_columns route_keys.now route_words.now route_usage.now routes) }
     ensures { result ≡ routed (route.rows_of (route.in_columns route_keys.now route_words.now route_usage.now routes)) destination policy relays suppressed directive }
 {
@@ -152,7 +154,7 @@ fn record_says(
         return RecordSays::Nothing;
     }
     let place = record_table::place_of(record_keys, record_lengths, records, destination);
-    let Place::Found(i) = place else {
+    let Ok(i) = place else {
         return RecordSays::Nothing;
     };
     let n = record_lengths[i];
@@ -179,7 +181,7 @@ fn by_tables(
     relays: usize,
     suppressed: bool,
     policy: Policy,
-) -> Choice
+) -> Result<Choice, Refusal>
     requires { route.WellFormed (route.in_columns route_keys.now route_words.now route_usage.now routes) × record_of.WellFormed (record_of.in_columns record_keys.now record_lengths.now records) }
     ensures { result ≡ tabled (route.rows_of (route.in_columns route_keys.now route_words.now route_usage.now routes)) (record_of.in_columns record_keys.now record_lengths.now records) destination policy relays suppressed directive }
 {
@@ -196,8 +198,8 @@ fn by_tables(
             suppressed,
             policy,
         ),
-        RecordSays::Direct => Choice::Hop(destination),
-        RecordSays::Row(i) => Choice::ByRecord(i),
+        RecordSays::Direct => Ok(Choice::Hop(destination)),
+        RecordSays::Row(i) => Ok(Choice::ByRecord(i)),
     }
 }
 
@@ -219,19 +221,19 @@ pub fn choose(
     relays: usize,
     suppressed: bool,
     kind: SendKind,
-) -> Choice
+) -> Result<Choice, Refusal>
     requires { route.WellFormed (route.in_columns route_keys.now route_words.now route_usage.now routes) × record_of.WellFormed (record_of.in_columns record_keys.now record_lengths.now records) × InUse neighbors (nwks.now ∷ links.now ∷ []) }
     ensures { Asked (lent_words nwks.now links.now neighbors) (λ xs. result ≡ chosen (route.rows_of (route.in_columns route_keys.now route_words.now route_usage.now routes)) (record_of.in_columns record_keys.now record_lengths.now records) xs destination policy relays suppressed kind) }
 {
     let SendKind::Route(directive) = kind else {
-        return Choice::Hop(destination);
+        return Ok(Choice::Hop(destination));
     };
     if let RouteDirective::Force(route) = directive {
         return by_host_route(route, relays);
     }
     let child = Filter::EndDeviceChildAt(destination);
     if neighbor_queries_lent::any_fitting(nwks, links, neighbors, child) {
-        return Choice::Hop(destination);
+        return Ok(Choice::Hop(destination));
     }
     by_tables(
         route_keys,

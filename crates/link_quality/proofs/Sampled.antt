@@ -1,9 +1,9 @@
 -- A link word with another ring in its lowest 40 bits says the same but for its samples, and stored it is the row with one more sample.
 -- Samples that wait: with room made, the sender's samples and one more are stored under its address.
+use Rattle.std.specs.Prelude.{Option, Some, None}
 use Prim.Native.Nat.{ℕ, ◌+◌, ◌*◌, ◌/◌, ◌%◌, ◌<◌, ◌≤◌}
 use native.Mathlib.Omega.{arith}
 use mathlib.Core.List.{List}
-use mathlib.Core.Option.{Option, none, some}
 use mathlib.Core.Path.{◌≡◌, refl, sym, ap, ◌∙◌, subst}
 use lib.Dec.{eqb}
 use lib.ListN.{get_or, set}
@@ -29,9 +29,7 @@ use Rattle.neighbor_changes.specs.declared.Change.TheVariants.{Sample}
 use Rattle.neighbor_changes.specs.Change.{applied}
 use Rattle.neighbor_changes.proofs.Kept.{still-sound}
 use Rattle.waiting_table.specs.declared.WaitingEntry.{WaitingEntry}
-use Rattle.waiting_table.specs.declared.WaitingLookup.{WaitingLookup}
-use Rattle.waiting_table.specs.Entry.{waiting_key}
-use Rattle.waiting_table.specs.Lookup.{looked}
+use Rattle.waiting_table.specs.Entry.{waiting_key, ring_in}
 use Rattle.waiting_columns.specs.Table as waits
 use Rattle.waiting_columns.proofs.Rows as waiting-rows
 use Rattle.link_quality.specs.Rules.{room_for, waiting_after, sampled_link}
@@ -106,7 +104,7 @@ unfolding neighbor_from applied
 row-sampled lqi key nwk l p deadline period heard added beacon bytes = refl
 
 -- stored in the row that was found
-pub sample-held : (t : NeighborTable) → WellFormed t → (o : Option NeighborEntry) (i : ℕ) → i < t.count → o ≡ some (row_at t i) → (lqi v : ℕ)
+pub sample-held : (t : NeighborTable) → WellFormed t → (o : Option NeighborEntry) (i : ℕ) → i < t.count → o ≡ Some (row_at t i) → (lqi v : ℕ)
     → link_of v ≡ sampled_link lqi (link_of (get_or t.links i 0)) → (CleanLink (get_or t.links i 0) → CleanLink v)
     → Holds (with_links (set t.links i v) t) (put_back neighbor_key (applied (Sample lqi)) o (rows_of t))
 sample-held t w o i h q lqi v e c =
@@ -125,18 +123,18 @@ module _ (t : waits.WaitingTable) (w : waits.WellFormed t) (nwk : Nwk) (lqi : �
       subst (λ (xs : List WaitingEntry). count_with waiting_key nwk.0 xs ≤ 64) (sym k.rows)
       (samples.room-made nwk (waits.rows_of t) (omega (arith, waiting-rows.many t w.formed, w.formed.ordered.small)))
 
-  pub sample-waits : (l : WaitingLookup) → l ≡ looked (lookup waiting_key nwk.0 (waits.rows_of u)) → (r : RingBuffer) → r ≡ after_push l.entry.lqas lqi
+  pub sample-waits : (l : Option WaitingEntry) → l ≡ lookup waiting_key nwk.0 (waits.rows_of u) → (r : RingBuffer) → r ≡ after_push (ring_in l) lqi
       → (x : waits.WaitingTable) → waits.Keeps x (put waiting_key (record { network_address = nwk; lqas = r }) (waits.rows_of u))
       → waits.Holds x (waiting_after nwk lqi (waits.rows_of t))
   sample-waits l e r f x h =
       waiting-rows.keeps-holds x _ (record { formed = h.formed; rows = h.rows ∙ go (lookup waiting_key nwk.0 (waits.rows_of u)) refl }) (samples.after-sound nwk (waits.rows_of t) lqi w.sound) where
         rings : (o : Option WaitingEntry) → lookup waiting_key nwk.0 (waits.rows_of u) ≡ o → put waiting_key (record { network_address = nwk; lqas = r }) (waits.rows_of u)
-            ≡ put waiting_key (record { network_address = nwk; lqas = after_push (looked o).entry.lqas lqi }) (room_for nwk (waits.rows_of t))
-        rings o q = λ z. put waiting_key (record { network_address = nwk; lqas = (f ∙ ap (λ (y : WaitingLookup). after_push y.entry.lqas lqi) (e ∙ ap looked q)) z }) (k.rows z)
+            ≡ put waiting_key (record { network_address = nwk; lqas = after_push (ring_in o) lqi }) (room_for nwk (waits.rows_of t))
+        rings o q = λ z. put waiting_key (record { network_address = nwk; lqas = (f ∙ ap (λ (y : Option WaitingEntry). after_push (ring_in y) lqi) (e ∙ q)) z }) (k.rows z)
 
         there : (o : Option WaitingEntry) → lookup waiting_key nwk.0 (waits.rows_of u) ≡ o → lookup waiting_key nwk.0 (room_for nwk (waits.rows_of t)) ≡ o
         there o q = sym (ap (lookup waiting_key nwk.0) k.rows) ∙ q
 
         go : (o : Option WaitingEntry) → lookup waiting_key nwk.0 (waits.rows_of u) ≡ o → put waiting_key (record { network_address = nwk; lqas = r }) (waits.rows_of u) ≡ waiting_after nwk lqi (waits.rows_of t)
-        go none q = rings none q ∙ sym (samples.first-sample nwk (waits.rows_of t) lqi (there none q))
-        go (some y) q = rings (some y) q ∙ sym (samples.next-sample nwk (waits.rows_of t) lqi y (there (some y) q))
+        go None q = rings None q ∙ sym (samples.first-sample nwk (waits.rows_of t) lqi (there None q))
+        go (Some y) q = rings (Some y) q ∙ sym (samples.next-sample nwk (waits.rows_of t) lqi y (there (Some y) q))

@@ -43,7 +43,7 @@ fn wait(senders: &mut [u16], samples: &mut [u64], waiting: usize, nwk: Nwk, lqi:
 {
     let n = make_room(senders, samples, waiting, nwk);
     let found = waiting_columns::find(senders, samples, n, nwk);
-    let held = found.entry.lqas;
+    let held = waiting_table::ring_in(found);
     let lqas = held.push(lqi);
     let e = WaitingEntry {
         network_address: nwk,

@@ -1,10 +1,10 @@
 -- A link status leaves a sound neighbour sound: the cost that it stores is one that it had or was given, and these are
 -- at most 7; the samples are those stored, or those that waited with one more.
+use Rattle.std.specs.Prelude.{Option, Some, None}
 use Prim.Native.Nat.{ℕ, ◌≤◌}
 use native.Mathlib.Omega.{arith}
 use mathlib.Core.Bool.{Bool, true, false, cond}
 use mathlib.Core.List.{List, [], ◌∷◌}
-use mathlib.Core.Option.{Option, none, some}
 use mathlib.Core.Path.{◌≡◌, refl}
 use borrow.Author.Tests.{leb-true, le-leb}
 use lib.Dec.{leb, eqb}
@@ -21,7 +21,6 @@ use Rattle.neighbor_table.specs.declared.NeighborEntry.{NeighborEntry}
 use Rattle.neighbor_table.specs.Entry.{neighbor_key, is_sound}
 use Rattle.waiting_table.specs.declared.WaitingEntry.{WaitingEntry}
 use Rattle.waiting_table.specs.Entry as waits-entry
-use Rattle.waiting_table.specs.Lookup as waiting
 use Rattle.neighbor_queries.specs.declared.LinkStatus.{LinkStatus}
 use Rattle.link_status.specs.declared.Tally.{Tally}
 use Rattle.link_status.specs.Statuses.{costs_fit, counted, tallied}
@@ -65,6 +64,6 @@ cost-of e s = leb-true _ _ (left_so (leb e.outgoing_cost 7) (ring.well_formed e.
 pub new-sound : (name : Eui64) (nwk : Nwk) (at now lqi : ℕ) (ws : List WaitingEntry) → every waits-entry.is_sound ws ≡ true → is_sound (new_router name nwk at now (samples_of nwk lqi ws)) ≡ true
 unfolding is_sound new_router
 new-sound name nwk at now lqi ws h = go (lookup waits-entry.waiting_key nwk.0 ws) refl where
-  go : (o : Option WaitingEntry) → lookup waits-entry.waiting_key nwk.0 ws ≡ o → ring.well_formed (ring.after_push (waiting.looked o).entry.lqas lqi) ≡ true
-  go none q = (tells-well-formed _).flag (push-well-formed lqi _ fresh-well-formed)
-  go (some e) q = (tells-well-formed _).flag (push-well-formed lqi e.lqas ((tells-well-formed e.lqas).fact (every-lookup waits-entry.is_sound waits-entry.waiting_key nwk.0 ws e h q)))
+  go : (o : Option WaitingEntry) → lookup waits-entry.waiting_key nwk.0 ws ≡ o → ring.well_formed (ring.after_push (waits-entry.ring_in o) lqi) ≡ true
+  go None q = (tells-well-formed _).flag (push-well-formed lqi _ fresh-well-formed)
+  go (Some e) q = (tells-well-formed _).flag (push-well-formed lqi e.lqas ((tells-well-formed e.lqas).fact (every-lookup waits-entry.is_sound waits-entry.waiting_key nwk.0 ws e h q)))

@@ -3,12 +3,12 @@
 use Prim.Native.Nat.{ℕ, ◌+◌, ◌*◌, ◌<◌, ◌≤◌}
 use native.Mathlib.Omega.{arith}
 use mathlib.Core.Bool.{Bool, true, false, cond, ◌&&◌, ◌||◌, false≢true}
-use mathlib.Core.List.{List, [], ◌∷◌, ◌++◌, map, append-nil, append_assoc}
+use mathlib.Core.List.{List, [], ◌∷◌, ◌++◌, map, append_assoc}
 use mathlib.Core.Path.{◌≡◌, refl, sym, ap, ◌∙◌}
 use native.Mathlib.Numerals.{add-one}
 use lib.Dec.{eqb}
 use lib.ListN.{length, take, drop, get_or, set}
-use lib.Seq.{length-take-le, get_or-take, take-suc-set}
+use lib.Seq.{take-suc-set}
 use Rattle.types.specs.declared.Nwk.{Nwk}
 use Rattle.standard.specs.Query.{some_fits}
 use Rattle.standard.proofs.Tells.{tells-one, tells-true, tells_both, tells-eq, tells-so}
@@ -39,20 +39,15 @@ among_next : (x y : ℕ) (ys : List ℕ) → among x (y ∷ ys) ≡ (eqb y x || 
 unfolding some_fits
 among_next x y ys = refl
 
-module _ (x : ℕ) (numbers : List ℕ) (n i : ℕ) (found : Bool) (fits : n ≤ length numbers) where
-  as_long : length (take n numbers) ≡ n
-  as_long = length-take-le n numbers fits
-
-  pub among-step : i < n → ((found || eqb (get_or numbers i 0) x) || among x (drop (i + 1) (take n numbers))) ≡ (found || among x (drop i (take n numbers)))
+module _ (x : ℕ) (numbers : List ℕ) (i : ℕ) (found : Bool) where
+  pub among-step : i < length numbers → ((found || eqb (get_or numbers i 0) x) || among x (drop (i + 1) numbers)) ≡ (found || among x (drop i numbers))
   among-step h =
       or-rest found _ _
-      ∙ ap (λ (b : Bool). found || b)
-      (sym (among_next x (get_or numbers i 0) (drop (i + 1) (take n numbers)))
-      ∙ ap (among x) (ap (λ (y : ℕ). y ∷ drop (i + 1) (take n numbers)) (sym (get_or-take n numbers i 0 h)) ∙ sym (rest-step (take n numbers) i 0 (omega (arith, as_long)))))
+      ∙ ap (λ (b : Bool). found || b) (sym (among_next x (get_or numbers i 0) (drop (i + 1) numbers)) ∙ ap (among x) (sym (rest-step numbers i 0 h)))
 
-  pub among-done : n ≤ i → (found || among x (drop i (take n numbers))) ≡ found
+  pub among-done : length numbers ≤ i → (found || among x (drop i numbers)) ≡ found
   unfolding some_fits
-  among-done h = ap (λ (l : List ℕ). found || among x l) (rest-done (take n numbers) i (omega (arith, as_long))) ∙ or-none found where
+  among-done h = ap (λ (l : List ℕ). found || among x l) (rest-done numbers i h) ∙ or-none found where
     or-none : (a : Bool) → (a || false) ≡ a
     or-none true = refl
     or-none false = refl
@@ -66,6 +61,3 @@ module _ {E : Type 0} (f : E → ℕ) (numbers : List ℕ) (i : ℕ) (whole : Li
       ∙ append_assoc (take i numbers) (v ∷ []) (map f rest)
       ∙ ap (λ (l : List ℕ). take i numbers ++ l) (ap (λ (y : ℕ). y ∷ map f rest) p ∙ sym (ap (map f) q))
       ∙ r
-
-  pub all-numbered : (n : ℕ) (rows : List E) → i ≡ n → rows ≡ [] → take i numbers ++ map f rows ≡ whole → take n numbers ≡ whole
-  all-numbered n rows p q r = ap (λ (k : ℕ). take k numbers) (sym p) ∙ sym (append-nil (take i numbers)) ∙ ap (λ (l : List E). take i numbers ++ map f l) (sym q) ∙ r

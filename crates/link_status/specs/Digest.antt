@@ -1,13 +1,11 @@
 -- What a link status command leaves: the sender's entry, the waiting samples, and whether the link is lost.
 -- Document 01, "Decision (001) and neighbours (003)", third paragraph; "Refusal numbers": 10, 8, 11, 5, 4. 05-3474, section 3.6.4.4.2.
 -- Assumes nothing.
-use Rattle.std.specs.Prelude.{ℕ, Bool, true, cond, not, ◌&&◌, ◌||◌, List, eqb, leb, ltb}
+use Rattle.std.specs.Prelude.{ℕ, Bool, true, cond, not, ◌&&◌, ◌||◌, List, eqb, leb, ltb, Option, Some, None, Result, Ok}
 use Rattle.types.specs.declared.Nwk.{Nwk}
 use Rattle.types.specs.declared.Eui64.{Eui64}
 use Rattle.types.specs.declared.Refusal.{Refusal}
 use Rattle.types.specs.declared.Refusal.TheVariants.{ListTooLong, LinkCostTooHigh, TimePastEnd, NeighborTableFull}
-use Rattle.types.specs.declared.Sum.{Sum}
-use Rattle.types.specs.declared.Sum.TheVariants.{At, Past}
 use Rattle.types.specs.Clock.{time_sum}
 use Rattle.standard.specs.Ordered.{lookup, put, remove, count_with}
 use Rattle.flat_map.specs.Table.{every}
@@ -17,14 +15,9 @@ use Rattle.neighbor_table.specs.declared.NwkDeviceType.{NwkDeviceType}
 use Rattle.neighbor_table.specs.declared.NwkDeviceType.TheVariants.{Coordinator, Router, EndDevice}
 use Rattle.neighbor_table.specs.declared.Relationship.TheVariants.{Sibling}
 use Rattle.neighbor_table.specs.declared.NeighborEntry.{NeighborEntry}
-use Rattle.neighbor_table.specs.declared.NeighborLookup.{NeighborLookup}
 use Rattle.neighbor_table.specs.Entry.{neighbor_key, is_end_device}
-use Rattle.neighbor_table.specs.Lookup as neighbor
 use Rattle.waiting_table.specs.declared.WaitingEntry.{WaitingEntry}
-use Rattle.waiting_table.specs.Entry.{waiting_key}
-use Rattle.waiting_table.specs.Lookup as waiting
-use Rattle.neighbor_queries.specs.declared.NwkAnswer.{NwkAnswer}
-use Rattle.neighbor_queries.specs.declared.NwkAnswer.TheVariants.{Is, Nothing}
+use Rattle.waiting_table.specs.Entry.{waiting_key, ring_in}
 use Rattle.link_status.specs.declared.LinkStatusCommand.{LinkStatusCommand}
 use Rattle.link_status.specs.declared.Tally.{Tally}
 use Rattle.link_status.specs.Statuses.{costs_fit, is_live_at, statuses_of, tallied}
@@ -104,34 +97,33 @@ new_router name nwk at now samples = record {
 
 -- "A new neighbour gets them and the quality given"
 abbrev pub samples_of : Nwk → ℕ → List WaitingEntry → RingBuffer
-samples_of nwk lqi ws = after_push (waiting.looked (lookup waiting_key nwk.0 ws)).entry.lqas lqi
+samples_of nwk lqi ws = after_push (ring_in (lookup waiting_key nwk.0 ws)) lqi
 
 -- what the statuses make of an entry's sums and cost, by the neighbours before the call
 abbrev pub tally_by : List NeighborEntry → Nwk → LinkStatusCommand → NeighborEntry → Tally
 tally_by xs own command e = tallied own (is_live_at xs) (statuses_of command) (begun command.is_first_frame e)
 
 -- the link is lost where it had a cost and has none; "The lost link named is the neighbour's stored address"
-abbrev pub lost : NeighborEntry → Tally → NwkAnswer
-lost e x = cond (ltb 0 e.outgoing_cost && eqb x.cost 0) (Is e.network_address) Nothing
+abbrev pub lost : NeighborEntry → Tally → Result (Option Nwk) Refusal
+lost e x = cond (ltb 0 e.outgoing_cost && eqb x.cost 0) (Ok (Some e.network_address)) (Ok None)
 
 -- The rule on the rows of both tables, xs and ws. What a refusal makes of them is `refuse`, and what an answer and the rows left are, `leave`.
-abbrev pub digested_rows : {O : Type 0} → (NwkAnswer → List NeighborEntry → List WaitingEntry → O) → List NeighborEntry → List WaitingEntry → Nwk → ℕ → NeighborEntry → Tally → O
+abbrev pub digested_rows : {O : Type 0} → ((Result (Option Nwk) Refusal) → List NeighborEntry → List WaitingEntry → O) → List NeighborEntry → List WaitingEntry → Nwk → ℕ → NeighborEntry → Tally → O
 digested_rows leave xs ws nwk now e x = leave (lost e x) (put neighbor_key (finished now x e) xs) (remove waiting_key nwk.0 ws)
 
 -- a sender that is not known wants a deadline that the clock has, and a place
-abbrev pub admitted_rows : {O : Type 0} → (Refusal → O) → (NwkAnswer → List NeighborEntry → List WaitingEntry → O) → List NeighborEntry → List WaitingEntry → Nwk → Eui64 → Nwk → ℕ → LinkStatusCommand → ℕ → Sum → O
-admitted_rows refuse leave xs ws own name nwk lqi command now (At at) =
+abbrev pub admitted_rows : {O : Type 0} → (Refusal → O) → ((Result (Option Nwk) Refusal) → List NeighborEntry → List WaitingEntry → O) → List NeighborEntry → List WaitingEntry → Nwk → Eui64 → Nwk → ℕ → LinkStatusCommand → ℕ → Option ℕ → O
+admitted_rows refuse leave xs ws own name nwk lqi command now (Some at) =
     let e = new_router name nwk at now (samples_of nwk lqi ws) in
     cond (leb (count_with neighbor_key name.0 xs) 64) (digested_rows leave xs ws nwk now e (tally_by xs own command e)) (refuse NeighborTableFull)
-admitted_rows refuse leave xs ws own name nwk lqi command now Past = refuse TimePastEnd
+admitted_rows refuse leave xs ws own name nwk lqi command now None = refuse TimePastEnd
 
-abbrev pub heard_rows : {O : Type 0} → (Refusal → O) → (NwkAnswer → List NeighborEntry → List WaitingEntry → O) → List NeighborEntry → List WaitingEntry → Nwk → Eui64 → Nwk → ℕ → LinkStatusCommand → ℕ → NeighborLookup → O
-heard_rows refuse leave xs ws own name nwk lqi command now l =
-    cond l.found (digested_rows leave xs ws nwk now l.entry (tally_by xs own command l.entry))
-    (admitted_rows refuse leave xs ws own name nwk lqi command now (time_sum now forever))
+abbrev pub heard_rows : {O : Type 0} → (Refusal → O) → ((Result (Option Nwk) Refusal) → List NeighborEntry → List WaitingEntry → O) → List NeighborEntry → List WaitingEntry → Nwk → Eui64 → Nwk → ℕ → LinkStatusCommand → ℕ → Option NeighborEntry → O
+heard_rows refuse leave xs ws own name nwk lqi command now None = admitted_rows refuse leave xs ws own name nwk lqi command now (time_sum now forever)
+heard_rows refuse leave xs ws own name nwk lqi command now (Some e) = digested_rows leave xs ws nwk now e (tally_by xs own command e)
 
-abbrev pub on_rows : {O : Type 0} → (Refusal → O) → (NwkAnswer → List NeighborEntry → List WaitingEntry → O) → List NeighborEntry → List WaitingEntry → Nwk → Eui64 → Nwk → ℕ → LinkStatusCommand → ℕ → O
+abbrev pub on_rows : {O : Type 0} → (Refusal → O) → ((Result (Option Nwk) Refusal) → List NeighborEntry → List WaitingEntry → O) → List NeighborEntry → List WaitingEntry → Nwk → Eui64 → Nwk → ℕ → LinkStatusCommand → ℕ → O
 on_rows refuse leave xs ws own name nwk lqi command now =
     cond (ltb 31 command.count) (refuse ListTooLong)
     (cond (not (every costs_fit (statuses_of command))) (refuse LinkCostTooHigh)
-    (heard_rows refuse leave xs ws own name nwk lqi command now (neighbor.looked (lookup neighbor_key name.0 xs))))
+    (heard_rows refuse leave xs ws own name nwk lqi command now (lookup neighbor_key name.0 xs)))

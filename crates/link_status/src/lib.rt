@@ -39,16 +39,9 @@ pub fn all_costs_fit(command: LinkStatusCommand) -> bool
     requires { command.count ≤ 31 }
     ensures { result ≡ every costs_fit (statuses_of command) }
 {
-    let n = command.count;
-    let mut i: usize = 0;
-    while i < n {
-        let status = command.statuses[i];
-        if !costs_fit(status) {
-            return false;
-        }
-        i += 1;
-    }
-    true
+    command.statuses[..command.count]
+        .iter()
+        .all(|status| costs_fit(*status))
 }
 
 // What a link is worth: 7 less the larger of its costs.
@@ -69,11 +62,7 @@ fn worth_of(status: LinkStatus) -> u8
 fn add_where(on: bool, x: u8, by: u8) -> u8
     ensures { result ≡ cond on (min (x + by) 255) x }
 {
-    if on {
-        types::saturating_add_u8(x, by)
-    } else {
-        x
-    }
+    if on { x.saturating_add(by) } else { x }
 }
 
 fn pick(on: bool, x: u8, other: u8) -> u8
@@ -93,7 +82,7 @@ pub fn count_one(own: Nwk, live: bool, status: LinkStatus, x: Tally) -> Tally
     Tally {
         connectivity: add_where(heard, x.connectivity, by),
         diversity: add_where(heard & !live, x.diversity, by),
-        cost: pick(address.0 == own.0, status.incoming_cost, x.cost),
+        cost: pick(address == own, status.incoming_cost, x.cost),
     }
 }
 

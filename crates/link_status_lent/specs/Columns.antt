@@ -1,13 +1,12 @@
 -- A link status command on the columns of both tables: what it is lent, what it decides before it writes, and what it leaves.
 -- Document 01, "Decision (001) and neighbours (003)", third paragraph; "Refusal numbers": 8, 11, 5, 4. 05-3474, section 3.6.4.4.2.
 -- Assumes nothing.
-use Rattle.std.specs.Prelude.{ℕ, ◌+◌, ◌*◌, ◌/◌, ◌%◌, ◌<◌, ◌≤◌, Bool, true, cond, ◌||◌, List, ◌≡◌, ltb, take}
+use Rattle.std.specs.Prelude.{ℕ, ◌+◌, ◌*◌, ◌/◌, ◌%◌, ◌<◌, ◌≤◌, Bool, true, cond, ◌||◌, List, ◌≡◌, ltb, take, Option, Result, Ok, Err}
 use Rattle.types.specs.declared.Nwk.{Nwk}
 use Rattle.types.specs.declared.Eui64.{Eui64}
 use Rattle.types.specs.declared.Refusal.{Refusal}
 use Rattle.types.specs.Clock.{last_time}
 use Rattle.standard.specs.Ordered.{put}
-use Rattle.flat_map.specs.declared.Place.TheVariants.{Found, Missing}
 use Rattle.flat_map.specs.Seek.{place_of}
 use Rattle.flat_map.specs.Table.{every}
 use Rattle.neighbor_table.specs.declared.NeighborEntry.{NeighborEntry}
@@ -18,8 +17,6 @@ use Rattle.neighbor_columns.specs.Lent.{with_nwks, with_links, with_counts, with
 use Rattle.neighbor_columns.specs.Table.{NeighborTable, rows_of, row_at, WellFormed, Holds}
 use Rattle.waiting_table.specs.declared.WaitingEntry.{WaitingEntry}
 use Rattle.waiting_columns.specs.Table as waiting
-use Rattle.neighbor_queries.specs.declared.NwkAnswer.{NwkAnswer}
-use Rattle.neighbor_queries.specs.declared.NwkAnswer.TheVariants.{Refused}
 use Rattle.link_status.specs.declared.LinkStatusCommand.{LinkStatusCommand}
 use Rattle.link_status.specs.declared.Tally.{Tally}
 use Rattle.link_status.specs.Statuses.{costs_fit, statuses_of}
@@ -29,14 +26,14 @@ use Rattle.link_status_lent.specs.declared.Verdict.TheVariants.{Known, New, Turn
 
 -- an answer, and the rows of both tables after it
 pub record RowsLeft : Type 0 where
-  pub answer : NwkAnswer
+  pub answer : Result (Option Nwk) Refusal
   pub neighbors : List NeighborEntry
   pub waiting : List WaitingEntry
 
 abbrev pub refused_rows : List NeighborEntry → List WaitingEntry → Refusal → RowsLeft
-refused_rows xs ws r = record { answer = Refused r; neighbors = xs; waiting = ws }
+refused_rows xs ws r = record { answer = Err r; neighbors = xs; waiting = ws }
 
-abbrev pub left_rows : NwkAnswer → List NeighborEntry → List WaitingEntry → RowsLeft
+abbrev pub left_rows : Result (Option Nwk) Refusal → List NeighborEntry → List WaitingEntry → RowsLeft
 left_rows a xs ws = record { answer = a; neighbors = xs; waiting = ws }
 
 -- the link status command on the rows of both tables: `on_rows` of link_status
@@ -44,7 +41,7 @@ abbrev pub on_link_status_rows : List NeighborEntry → List WaitingEntry → Nw
 on_link_status_rows xs ws own name nwk lqi command now = on_rows (refused_rows xs ws) left_rows xs ws own name nwk lqi command now
 
 -- an answer as it was to be, and columns that hold the rows left, well formed
-pub record Leaves (x : RowsLeft) (answer : NwkAnswer) (t : NeighborTable) (w : waiting.WaitingTable) : Type 0 where
+pub record Leaves (x : RowsLeft) (answer : Result (Option Nwk) Refusal) (t : NeighborTable) (w : waiting.WaitingTable) : Type 0 where
   pub said : answer ≡ x.answer
   pub neighbors : Holds t x.neighbors
   pub waiting : waiting.Holds w x.waiting
@@ -101,7 +98,7 @@ Stores before after i now x =
     → Holds (after t) (put neighbor_key (finished now x (row_at (before t) i)) (rows_of (before t)))
 
 -- the command digested into the row in place i, and its answer
-abbrev pub Digests : (NeighborTable → NeighborTable) → (NeighborTable → NeighborTable) → ℕ → Nwk → LinkStatusCommand → ℕ → NwkAnswer → Type 0
+abbrev pub Digests : (NeighborTable → NeighborTable) → (NeighborTable → NeighborTable) → ℕ → Nwk → LinkStatusCommand → ℕ → Result (Option Nwk) Refusal → Type 0
 Digests before after i own command now answer =
     (t : NeighborTable) → WellFormed (before t)
     → (answer ≡ lost (row_at (before t) i) (tally_by (rows_of (before t)) own command (row_at (before t) i)))
@@ -109,7 +106,7 @@ Digests before after i own command now answer =
 
 -- what is decided before anything is written: the sender's place, known or new, or a refusal
 abbrev pub Decides : List ℕ → ℕ → Eui64 → LinkStatusCommand → ℕ → Verdict → Type 0
-Decides keys count name command now (Known i) = Fair command × (Found i ≡ place_of (take count keys) name.0)
-Decides keys count name command now (New i) = Fair command × (Missing i ≡ place_of (take count keys) name.0) × (count < 64) × (now + forever ≤ last_time)
+Decides keys count name command now (Known i) = Fair command × (Ok i ≡ place_of (take count keys) name.0)
+Decides keys count name command now (New i) = Fair command × (Err i ≡ place_of (take count keys) name.0) × (count < 64) × (now + forever ≤ last_time)
 Decides keys count name command now (Turned r) =
     Asked (lent_keys keys count) (λ xs. (ws : List WaitingEntry) (own nwk : Nwk) (lqi : ℕ) → on_link_status_rows xs ws own name nwk lqi command now ≡ refused_rows xs ws r)

@@ -5,7 +5,6 @@
 ghost use Rattle.std.specs.Prelude.{cond, ◌&&◌, map, ◌≡◌, ◌+◌, ◌*◌, ◌≤◌, ◌<◌, eqb, ltb, take, length};
 ghost use Rattle.flat_map.specs.Table.{Rising};
 ghost use Rattle.types.specs.Clock.{last_time};
-ghost use Rattle.neighbor_queries.specs.declared.NwkAnswer.TheVariants.{Is, Nothing};
 ghost use Rattle.neighbor_columns.specs.Lent.{Asked, with_nwks};
 ghost use Rattle.neighbor_columns.specs.Table.{in_columns, rows_of, WellFormed};
 ghost use Rattle.waiting_columns.specs.Table as waits;
@@ -13,17 +12,15 @@ ghost use Rattle.link_status.specs.Digest.{finished, forever, new_router, sample
 ghost use Rattle.link_status.specs.Statuses.{among, is_live_at, live_number, statuses_of, tallied};
 ghost use Rattle.link_status_lent.specs.Columns.{lent_live, lent_status, number_in, begun_in, finished_link, finished_counts, Fair, Stores, Digests, Decides, on_link_status_rows, Leaves};
 
-use flat_map::Place;
 use link_status::{LinkStatusCommand, Tally};
 use neighbor_columns::{CountsPart, LinkPart};
-use neighbor_queries::NwkAnswer;
 use neighbor_table::NeighborEntry;
-use types::{Eui64, Nwk, Refusal, Sum};
+use types::{Eui64, Nwk, Refusal};
 
 // What a command answers, and how many neighbours and waiting senders there are after it.
 #[derive(Drop)]
 pub struct Digested {
-    pub answer: NwkAnswer,
+    pub answer: Result<Option<Nwk>, Refusal>,
     pub neighbors: usize,
     pub waiting: usize,
 }
@@ -56,10 +53,8 @@ fn live_numbers(nwks: &[u16], links: &[u64], count: usize, numbers: &mut [u32])
     requires { (count ≤ 64) × (count ≤ length nwks.now) × (count ≤ length links.now) × (count ≤ length numbers.old) }
     ensures { Asked (lent_live nwks.now links.now count) (λ xs. take count numbers.new ≡ map live_number xs) }
 {
-    let mut i: usize = 0;
-    while i < count {
+    for i in 0..count {
         numbers[i] = live_number(nwks[i], links[i]);
-        i += 1;
     }
 }
 
@@ -69,10 +64,8 @@ fn is_among(numbers: &[u32], n: usize, x: u32) -> bool
     ensures { result ≡ among x (take n numbers.now) }
 {
     let mut found = false;
-    let mut i: usize = 0;
-    while i < n {
-        found |= numbers[i] == x;
-        i += 1;
+    for number in &numbers[..n] {
+        found |= *number == x;
     }
     found
 }
@@ -82,15 +75,12 @@ fn count_all(numbers: &[u32], n: usize, own: Nwk, command: LinkStatusCommand, st
     requires { (n ≤ length numbers.now) × Fair command }
     ensures { result ≡ tallied own (λ a. among (a.0 * 2 + 1) (take n numbers.now)) (statuses_of command) start }
 {
-    let all = command.count;
     let mut x = start;
-    let mut i: usize = 0;
-    while i < all {
+    for i in 0..command.count {
         let status = command.statuses[i];
         let address = status.address;
         let live = is_among(numbers, n, address.0 as u32 * 2 + 1);
         x = link_status::count_one(own, live, status, x);
-        i += 1;
     }
     x
 }
@@ -184,13 +174,13 @@ fn store(
 }
 
 // The stored address where the link had a cost and has none.
-fn lost_link(had: u8, address: Nwk, x: Tally) -> NwkAnswer
-    ensures { result ≡ cond (ltb 0 had && eqb x.cost 0) (Is address) Nothing }
+fn lost_link(had: u8, address: Nwk, x: Tally) -> Result<Option<Nwk>, Refusal>
+    ensures { result ≡ cond (ltb 0 had && eqb x.cost 0) (Ok (Some address)) (Ok None) }
 {
     if (0 < had) & (x.cost == 0) {
-        NwkAnswer::Is(address)
+        Ok(Some(address))
     } else {
-        NwkAnswer::Nothing
+        Ok(None)
     }
 }
 
@@ -205,7 +195,7 @@ fn digest_at(
     own: Nwk,
     command: LinkStatusCommand,
     now_ms: u64,
-) -> NwkAnswer
+) -> Result<Option<Nwk>, Refusal>
     requires { (i < count) × (count ≤ 64) × (count ≤ length nwks.now) × (count ≤ length links.old) × (count ≤ length counts.old) × (count ≤ length heard.old) × Fair command }
     ensures { Digests (λ t. with_nwks nwks.now (lent_status links.old counts.old heard.old count t))
         (λ t. with_nwks nwks.now (lent_status links.new counts.new heard.new count t)) i own command now_ms result }
@@ -232,7 +222,7 @@ fn router_of(
     ensures { result ≡ new_router name nwk (now_ms + forever) now_ms (samples_of nwk lqi (waits.rows_of (waits.in_columns senders.now samples.now waiting))) }
 {
     let found = waiting_columns::find(senders, samples, waiting, nwk);
-    let held = found.entry.lqas;
+    let held = waiting_table::ring_in(found);
     let lqas = held.push(lqi);
     link_status::new_router(name, nwk, now_ms + FOREVER, now_ms, lqas)
 }
@@ -274,24 +264,24 @@ fn decide(
     }
     let place = neighbor_columns::place_of(keys, count, name);
     match place {
-        Place::Found(i) => Verdict::Known(i),
-        Place::Missing(i) => {
+        Ok(i) => Verdict::Known(i),
+        Err(i) => {
             let sum = types::time_sum(now_ms, FOREVER);
             match sum {
-                Sum::At(_) => {
+                Some(_) => {
                     if count < 64 {
                         Verdict::New(i)
                     } else {
                         Verdict::Turned(Refusal::NeighborTableFull)
                     }
                 }
-                Sum::Past => Verdict::Turned(Refusal::TimePastEnd),
+                None => Verdict::Turned(Refusal::TimePastEnd),
             }
         }
     }
 }
 
-fn answered(answer: NwkAnswer, neighbors: usize, waiting: usize) -> Digested
+fn answered(answer: Result<Option<Nwk>, Refusal>, neighbors: usize, waiting: usize) -> Digested
     ensures { (result.answer ≡ answer) × (result.neighbors ≡ neighbors) × (result.waiting ≡ waiting) }
 {
     Digested {
@@ -347,8 +337,8 @@ pub fn on_link_status(
                 i, e,
             );
             let left = waiting_columns::remove(senders, samples, waiting, nwk);
-            answered(NwkAnswer::Nothing, n, left)
+            answered(Ok(None), n, left)
         }
-        Verdict::Turned(r) => answered(NwkAnswer::Refused(r), count, waiting),
+        Verdict::Turned(r) => answered(Err(r), count, waiting),
     }
 }

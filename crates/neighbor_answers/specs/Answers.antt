@@ -1,38 +1,22 @@
 -- The number and the values of each answer about neighbours.
 -- Document 01, "How each place should look": "a definition gives this paper's number and values for each of its cases".
 -- Assumes nothing.
-use Rattle.std.specs.Prelude.{ℕ, List, [], ◌∷◌, ◌++◌}
+use Rattle.std.specs.Prelude.{ℕ, List, [], ◌∷◌, ◌++◌, Option, Some, None, Result, Ok, Err, Bool}
 use Rattle.numbers.specs.declared.Answer as numbers
 use Rattle.numbers.specs.declared.Numbers.{Numbers}
 use Rattle.numbers.specs.Said.{Said, ok, refused_by, flag_number, spoken}
-use Rattle.neighbor_table.specs.declared.Quality.{Quality}
-use Rattle.neighbor_table.specs.declared.Quality.TheVariants as qualities
+use Rattle.neighbor_table.specs.declared.NeighborEntry.{NeighborEntry}
 use Rattle.neighbor_table.specs.Entry.{device_type_number, quality_of, cost_of, is_child_of}
 use Rattle.neighbor_queries.specs.declared.ChildList.{ChildList}
 use Rattle.neighbor_queries.specs.declared.Eui64List.{Eui64List}
 use Rattle.neighbor_queries.specs.declared.NwkList.{NwkList}
 use Rattle.neighbor_queries.specs.declared.LinkStatusList.{LinkStatusList}
-use Rattle.neighbor_queries.specs.declared.Truth.{Truth}
-use Rattle.neighbor_queries.specs.declared.Truth.TheVariants as truths
-use Rattle.neighbor_queries.specs.declared.Count.{Count}
-use Rattle.neighbor_queries.specs.declared.Count.TheVariants as counts
-use Rattle.neighbor_queries.specs.declared.Eui64Answer.{Eui64Answer}
-use Rattle.neighbor_queries.specs.declared.Eui64Answer.TheVariants as names
-use Rattle.neighbor_queries.specs.declared.NwkAnswer.{NwkAnswer}
-use Rattle.neighbor_queries.specs.declared.NwkAnswer.TheVariants as addresses
 use Rattle.neighbor_queries.specs.declared.NeighborLink.{NeighborLink}
-use Rattle.neighbor_queries.specs.declared.LinkAnswer.{LinkAnswer}
-use Rattle.neighbor_queries.specs.declared.LinkAnswer.TheVariants as links
 use Rattle.neighbor_queries.specs.declared.Capability.{Capability}
-use Rattle.neighbor_queries.specs.declared.Capability.TheVariants as capabilities
-use Rattle.neighbor_queries.specs.declared.MomentAnswer.{MomentAnswer}
-use Rattle.neighbor_queries.specs.declared.MomentAnswer.TheVariants as times
-use Rattle.neighbor_queries.specs.declared.Answer.{Answer}
-use Rattle.neighbor_queries.specs.declared.Answer.TheVariants as answers
-use Rattle.neighbor_queries.specs.declared.EntryAnswer.{EntryAnswer}
-use Rattle.neighbor_queries.specs.declared.Presence.{Presence}
-use Rattle.neighbor_queries.specs.declared.Presence.TheVariants as presences
 use Rattle.neighbor_values.specs.Values.{neighbor_numbers, children_numbers, eui64s_numbers, nwks_numbers, statuses_numbers}
+use Rattle.types.specs.declared.Nwk.{Nwk}
+use Rattle.types.specs.declared.Eui64.{Eui64}
+use Rattle.types.specs.declared.Refusal.{Refusal}
 
 -- 0 for none
 abbrev pub nothing : Said
@@ -42,102 +26,105 @@ nothing = ok (0 ∷ [])
 abbrev pub given : List ℕ → Said
 given xs = ok (1 ∷ xs)
 
-abbrev pub truth_said : Truth → Said
-truth_said (truths.Is b) = ok (flag_number b ∷ [])
-truth_said (truths.Refused why) = refused_by why
+abbrev pub truth_said : Result Bool Refusal → Said
+truth_said (Ok b) = ok (flag_number b ∷ [])
+truth_said (Err why) = refused_by why
 
-abbrev pub count_said : Count → Said
-count_said (counts.Is n) = ok (n ∷ [])
-count_said (counts.Refused why) = refused_by why
+abbrev pub count_said : Result ℕ Refusal → Said
+count_said (Ok n) = ok (n ∷ [])
+count_said (Err why) = refused_by why
 
-abbrev pub eui64_said : Eui64Answer → Said
-eui64_said (names.Is a) = given (a.0 ∷ [])
-eui64_said names.Nothing = nothing
-eui64_said (names.Refused why) = refused_by why
+abbrev pub eui64_said : Result (Option Eui64) Refusal → Said
+eui64_said (Ok (Some a)) = given (a.0 ∷ [])
+eui64_said (Ok None) = nothing
+eui64_said (Err why) = refused_by why
 
-abbrev pub nwk_said : NwkAnswer → Said
-nwk_said (addresses.Is a) = given (a.0 ∷ [])
-nwk_said addresses.Nothing = nothing
-nwk_said (addresses.Refused why) = refused_by why
+abbrev pub nwk_said : Result (Option Nwk) Refusal → Said
+nwk_said (Ok (Some a)) = given (a.0 ∷ [])
+nwk_said (Ok None) = nothing
+nwk_said (Err why) = refused_by why
 
 -- the extended address, the outgoing and the incoming cost
 abbrev pub link_given : NeighborLink → Said
 link_given l = given (l.eui64.0 ∷ l.outgoing_cost ∷ l.incoming_cost ∷ [])
 
-abbrev pub link_said : LinkAnswer → Said
-link_said (links.Is l) = link_given l
-link_said links.Nothing = nothing
-link_said (links.Refused why) = refused_by why
+abbrev pub link_said : Result (Option NeighborLink) Refusal → Said
+link_said (Ok (Some l)) = link_given l
+link_said (Ok None) = nothing
+link_said (Err why) = refused_by why
 
 -- the device type, and whether it listens when idle
-abbrev pub capability_said : Capability → Said
-capability_said (capabilities.Is kind listens) = given (device_type_number kind ∷ flag_number listens ∷ [])
-capability_said capabilities.Nothing = nothing
-capability_said (capabilities.Refused why) = refused_by why
+abbrev pub capability_said : Result (Option Capability) Refusal → Said
+capability_said (Ok (Some able)) = given (device_type_number able.device_type ∷ flag_number able.rx_on_when_idle ∷ [])
+capability_said (Ok None) = nothing
+capability_said (Err why) = refused_by why
 
-abbrev pub moment_said : MomentAnswer → Said
-moment_said (times.At t) = given (t ∷ [])
-moment_said times.Never = nothing
-moment_said (times.Refused why) = refused_by why
+abbrev pub moment_said : Result (Option ℕ) Refusal → Said
+moment_said (Ok (Some t)) = given (t ∷ [])
+moment_said (Ok None) = nothing
+moment_said (Err why) = refused_by why
 
 -- nothing more is said of a call that is done
-abbrev pub done_said : Answer → Said
-done_said answers.Done = ok []
-done_said (answers.Refused why) = refused_by why
+abbrev pub done_said : Result Unit Refusal → Said
+done_said (Ok tt) = ok []
+done_said (Err why) = refused_by why
 
 -- what is said of an entry, if there is one
-abbrev pub of_entry : Presence → List ℕ → Said
-of_entry presences.Found xs = given xs
-of_entry presences.Nothing xs = nothing
-of_entry (presences.Refused why) xs = refused_by why
-
--- the same of values that were put one after another
-abbrev pub found_by : Presence → Numbers → numbers.Answer
-found_by presences.Found n = record { kind = 0; numbers = n }
-found_by presences.Nothing n = spoken nothing
-found_by (presences.Refused why) n = spoken (refused_by why)
+abbrev pub of_entry : (NeighborEntry → List ℕ) → Result (Option NeighborEntry) Refusal → Said
+of_entry numbers (Ok (Some e)) = given (numbers e)
+of_entry numbers (Ok None) = nothing
+of_entry numbers (Err why) = refused_by why
 
 -- the whole entry
-abbrev pub entry_said : EntryAnswer → Said
-entry_said e = of_entry e.answer (neighbor_numbers e.entry)
+abbrev pub entry_said : Result (Option NeighborEntry) Refusal → Said
+entry_said a = of_entry neighbor_numbers a
 
 -- a quality that is known, or none
-abbrev pub quality_numbers : Quality → List ℕ
-quality_numbers qualities.Unknown = 0 ∷ []
-quality_numbers (qualities.Known q) = 1 ∷ q ∷ []
+abbrev pub quality_numbers : Option ℕ → List ℕ
+quality_numbers None = 0 ∷ []
+quality_numbers (Some q) = 1 ∷ q ∷ []
 
 -- the entry's own questions: its quality, its incoming cost, whether it is a child
-abbrev pub quality_said : EntryAnswer → Said
-quality_said e = of_entry e.answer (quality_numbers (quality_of e.entry.lqas))
+abbrev pub quality_said : Result (Option NeighborEntry) Refusal → Said
+quality_said a = of_entry (λ e. quality_numbers (quality_of e.lqas)) a
 
-abbrev pub cost_said : EntryAnswer → Said
-cost_said e = of_entry e.answer (cost_of (quality_of e.entry.lqas) ∷ [])
+abbrev pub cost_said : Result (Option NeighborEntry) Refusal → Said
+cost_said a = of_entry (λ e. cost_of (quality_of e.lqas) ∷ []) a
 
-abbrev pub is_child_said : EntryAnswer → Said
-is_child_said e = of_entry e.answer (flag_number (is_child_of e.entry.relationship) ∷ [])
+abbrev pub is_child_said : Result (Option NeighborEntry) Refusal → Said
+is_child_said a = of_entry (λ e. flag_number (is_child_of e.relationship) ∷ []) a
+
+-- a call that answers a list
+abbrev pub list_said : {L : Type 0} → (L → List ℕ) → Result L Refusal → Said
+list_said numbers (Ok list) = ok (numbers list)
+list_said numbers (Err why) = refused_by why
 
 -- a call that answers values where it is done
-abbrev pub said_of : Answer → List ℕ → Said
-said_of answers.Done xs = ok xs
-said_of (answers.Refused why) xs = refused_by why
+abbrev pub said_of : Result Unit Refusal → List ℕ → Said
+said_of (Ok tt) xs = ok xs
+said_of (Err why) xs = refused_by why
 
 -- the same of values that were put one after another
-abbrev pub told_by : Answer → Numbers → numbers.Answer
-told_by answers.Done n = record { kind = 0; numbers = n }
-told_by (answers.Refused why) n = spoken (refused_by why)
+abbrev pub told_by : Result Unit Refusal → Numbers → numbers.Answer
+told_by (Ok tt) n = record { kind = 0; numbers = n }
+told_by (Err why) n = spoken (refused_by why)
 
-abbrev pub children_said : Answer → ChildList → Said
-children_said a l = said_of a (children_numbers l)
+abbrev pub children_said : Result ChildList Refusal → Said
+children_said a = list_said children_numbers a
 
-abbrev pub eui64s_said : Answer → Eui64List → Said
-eui64s_said a l = said_of a (eui64s_numbers l)
+abbrev pub eui64s_said : Result Eui64List Refusal → Said
+eui64s_said a = list_said eui64s_numbers a
 
-abbrev pub nwks_said : Answer → NwkList → Said
-nwks_said a l = said_of a (nwks_numbers l)
+abbrev pub nwks_said : Result NwkList Refusal → Said
+nwks_said a = list_said nwks_numbers a
 
-abbrev pub statuses_said : Answer → LinkStatusList → Said
-statuses_said a l = said_of a (statuses_numbers l)
+abbrev pub statuses_said : Result LinkStatusList Refusal → Said
+statuses_said a = list_said statuses_numbers a
+
+-- the children that were removed
+abbrev pub removed_said : Result Unit Refusal → ChildList → Said
+removed_said a removed = said_of a (children_numbers removed)
 
 -- the children claimed back, then those that were removed
-abbrev pub announced_said : Answer → Eui64List → ChildList → Said
+abbrev pub announced_said : Result Unit Refusal → Eui64List → ChildList → Said
 announced_said a claimed removed = said_of a (eui64s_numbers claimed ++ children_numbers removed)

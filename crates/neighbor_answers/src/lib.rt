@@ -4,14 +4,12 @@
 ghost use Rattle.std.specs.Prelude.{◌≡◌, [], ◌∷◌};
 ghost use Rattle.numbers.specs.Said.{ok, flag_number, empty, pushed_all, spoken};
 ghost use Rattle.neighbor_table.specs.Entry.{device_type_number};
-ghost use Rattle.neighbor_answers.specs.Answers.{nothing, given, truth_said, count_said, eui64_said, nwk_said, link_given, link_said, capability_said, moment_said, done_said, entry_said, quality_numbers, quality_said, cost_said, is_child_said, told_by, found_by, children_said, eui64s_said, nwks_said, statuses_said, announced_said};
+ghost use Rattle.neighbor_answers.specs.Answers.{nothing, given, truth_said, count_said, eui64_said, nwk_said, link_given, link_said, capability_said, moment_said, done_said, entry_said, quality_numbers, quality_said, cost_said, is_child_said, told_by, children_said, eui64s_said, nwks_said, statuses_said, removed_said, announced_said};
 
-use neighbor_queries::{
-    Capability, ChildList, Count, EntryAnswer, Eui64Answer, Eui64List, LinkAnswer, LinkStatusList,
-    MomentAnswer, NeighborLink, NwkAnswer, NwkList, Presence, Truth,
-};
-use neighbor_table::{NwkDeviceType, Quality};
+use neighbor_queries::{Capability, ChildList, Eui64List, LinkStatusList, NeighborLink, NwkList};
+use neighbor_table::{NeighborEntry, NwkDeviceType};
 use numbers::{Answer, Numbers};
+use types::{Eui64, Nwk, Refusal};
 
 // An answer of one value.
 pub fn one(x: u64) -> Answer
@@ -44,41 +42,41 @@ fn given_one(x: u64) -> Answer
     numbers::answered(numbers::push(n, x))
 }
 
-pub fn truth_answer(a: Truth) -> Answer
+pub fn truth_answer(a: Result<bool, Refusal>) -> Answer
     ensures { result ≡ spoken (truth_said a) }
 {
     match a {
-        Truth::Is(b) => one(numbers::flag_number(b)),
-        Truth::Refused(why) => numbers::refused(why),
+        Ok(b) => one(numbers::flag_number(b)),
+        Err(why) => numbers::refused(why),
     }
 }
 
-pub fn count_answer(a: Count) -> Answer
+pub fn count_answer(a: Result<usize, Refusal>) -> Answer
     ensures { result ≡ spoken (count_said a) }
 {
     match a {
-        Count::Is(n) => one(n as u64),
-        Count::Refused(why) => numbers::refused(why),
+        Ok(n) => one(n as u64),
+        Err(why) => numbers::refused(why),
     }
 }
 
-pub fn eui64_answer(a: Eui64Answer) -> Answer
+pub fn eui64_answer(a: Result<Option<Eui64>, Refusal>) -> Answer
     ensures { result ≡ spoken (eui64_said a) }
 {
     match a {
-        Eui64Answer::Is(eui64) => given_one(eui64.0),
-        Eui64Answer::Nothing => absent(),
-        Eui64Answer::Refused(why) => numbers::refused(why),
+        Ok(Some(eui64)) => given_one(eui64.0),
+        Ok(None) => absent(),
+        Err(why) => numbers::refused(why),
     }
 }
 
-pub fn nwk_answer(a: NwkAnswer) -> Answer
+pub fn nwk_answer(a: Result<Option<Nwk>, Refusal>) -> Answer
     ensures { result ≡ spoken (nwk_said a) }
 {
     match a {
-        NwkAnswer::Is(nwk) => given_one(nwk.0 as u64),
-        NwkAnswer::Nothing => absent(),
-        NwkAnswer::Refused(why) => numbers::refused(why),
+        Ok(Some(nwk)) => given_one(nwk.0 as u64),
+        Ok(None) => absent(),
+        Err(why) => numbers::refused(why),
     }
 }
 
@@ -92,13 +90,13 @@ fn link_given(l: NeighborLink) -> Answer
     numbers::answered(neighbor_values::push_byte(k, l.incoming_cost))
 }
 
-pub fn link_answer(a: LinkAnswer) -> Answer
+pub fn link_answer(a: Result<Option<NeighborLink>, Refusal>) -> Answer
     ensures { result ≡ spoken (link_said a) }
 {
     match a {
-        LinkAnswer::Is(l) => link_given(l),
-        LinkAnswer::Nothing => absent(),
-        LinkAnswer::Refused(why) => numbers::refused(why),
+        Ok(Some(l)) => link_given(l),
+        Ok(None) => absent(),
+        Err(why) => numbers::refused(why),
     }
 }
 
@@ -110,74 +108,64 @@ fn capability_given(kind: NwkDeviceType, listens: bool) -> Answer
     numbers::answered(neighbor_values::push_flag(m, listens))
 }
 
-pub fn capability_answer(a: Capability) -> Answer
+pub fn capability_answer(a: Result<Option<Capability>, Refusal>) -> Answer
     ensures { result ≡ spoken (capability_said a) }
 {
     match a {
-        Capability::Is {
-            device_type,
-            rx_on_when_idle,
-        } => capability_given(device_type, rx_on_when_idle),
-        Capability::Nothing => absent(),
-        Capability::Refused(why) => numbers::refused(why),
+        Ok(Some(able)) => capability_given(able.device_type, able.rx_on_when_idle),
+        Ok(None) => absent(),
+        Err(why) => numbers::refused(why),
     }
 }
 
-pub fn moment_answer(a: MomentAnswer) -> Answer
+pub fn moment_answer(a: Result<Option<u64>, Refusal>) -> Answer
     ensures { result ≡ spoken (moment_said a) }
 {
     match a {
-        MomentAnswer::At(t) => given_one(t),
-        MomentAnswer::Never => absent(),
-        MomentAnswer::Refused(why) => numbers::refused(why),
+        Ok(Some(t)) => given_one(t),
+        Ok(None) => absent(),
+        Err(why) => numbers::refused(why),
     }
 }
 
-pub fn done_answer(a: neighbor_queries::Answer) -> Answer
+pub fn done_answer(a: Result<(), Refusal>) -> Answer
     ensures { result ≡ spoken (done_said a) }
 {
     match a {
-        neighbor_queries::Answer::Done => numbers::done(),
-        neighbor_queries::Answer::Refused(why) => numbers::refused(why),
+        Ok(()) => numbers::done(),
+        Err(why) => numbers::refused(why),
     }
 }
 
 // A call's values, where it was done.
-fn told(answer: neighbor_queries::Answer, values: Numbers) -> Answer
+fn told(answer: Result<(), Refusal>, values: Numbers) -> Answer
     ensures { result ≡ told_by answer values }
 {
     match answer {
-        neighbor_queries::Answer::Done => numbers::answered(values),
-        neighbor_queries::Answer::Refused(why) => numbers::refused(why),
+        Ok(()) => numbers::answered(values),
+        Err(why) => numbers::refused(why),
     }
 }
 
-// An entry's values, where there is one.
-fn found(answer: Presence, values: Numbers) -> Answer
-    ensures { result ≡ found_by answer values }
-{
-    match answer {
-        Presence::Found => numbers::answered(values),
-        Presence::Nothing => absent(),
-        Presence::Refused(why) => numbers::refused(why),
-    }
-}
-
-pub fn entry_answer(a: EntryAnswer) -> Answer
+pub fn entry_answer(a: Result<Option<NeighborEntry>, Refusal>) -> Answer
     ensures { result ≡ spoken (entry_said a) }
 {
-    let answer = a.answer;
-    let entry = a.entry;
-    let n = present();
-    found(answer, neighbor_values::push_neighbor(n, entry))
+    match a {
+        Ok(Some(e)) => {
+            let n = present();
+            numbers::answered(neighbor_values::push_neighbor(n, e))
+        }
+        Ok(None) => absent(),
+        Err(why) => numbers::refused(why),
+    }
 }
 
-fn push_quality(n: Numbers, quality: Quality) -> Numbers
+fn push_quality(n: Numbers, quality: Option<u8>) -> Numbers
     ensures { result ≡ pushed_all n (quality_numbers quality) }
 {
     match quality {
-        Quality::Unknown => numbers::push(n, 0),
-        Quality::Known(q) => {
+        None => numbers::push(n, 0),
+        Some(q) => {
             let m = numbers::push(n, 1);
             neighbor_values::push_byte(m, q)
         }
@@ -185,69 +173,106 @@ fn push_quality(n: Numbers, quality: Quality) -> Numbers
 }
 
 // The quality at which an entry is heard.
-pub fn quality_answer(a: EntryAnswer) -> Answer
+pub fn quality_answer(a: Result<Option<NeighborEntry>, Refusal>) -> Answer
     ensures { result ≡ spoken (quality_said a) }
 {
-    let answer = a.answer;
-    let entry = a.entry;
-    let n = present();
-    found(answer, push_quality(n, entry.lqa()))
+    match a {
+        Ok(Some(e)) => {
+            let n = present();
+            numbers::answered(push_quality(n, e.lqa()))
+        }
+        Ok(None) => absent(),
+        Err(why) => numbers::refused(why),
+    }
 }
 
 // The incoming cost of an entry's link.
-pub fn cost_answer(a: EntryAnswer) -> Answer
+pub fn cost_answer(a: Result<Option<NeighborEntry>, Refusal>) -> Answer
     ensures { result ≡ spoken (cost_said a) }
 {
-    let answer = a.answer;
-    let entry = a.entry;
-    let n = present();
-    let cost = entry.incoming_link_cost();
-    found(answer, neighbor_values::push_byte(n, cost))
+    match a {
+        Ok(Some(e)) => {
+            let n = present();
+            numbers::answered(neighbor_values::push_byte(n, e.incoming_link_cost()))
+        }
+        Ok(None) => absent(),
+        Err(why) => numbers::refused(why),
+    }
 }
 
 // Whether an entry is a child.
-pub fn is_child_answer(a: EntryAnswer) -> Answer
+pub fn is_child_answer(a: Result<Option<NeighborEntry>, Refusal>) -> Answer
     ensures { result ≡ spoken (is_child_said a) }
 {
-    let answer = a.answer;
-    let entry = a.entry;
-    let n = present();
-    let child = entry.is_child();
-    found(answer, neighbor_values::push_flag(n, child))
+    match a {
+        Ok(Some(e)) => {
+            let n = present();
+            numbers::answered(neighbor_values::push_flag(n, e.is_child()))
+        }
+        Ok(None) => absent(),
+        Err(why) => numbers::refused(why),
+    }
 }
 
-// Children, where the call was done.
-pub fn children_answer(answer: neighbor_queries::Answer, list: ChildList) -> Answer
-    ensures { result ≡ spoken (children_said answer list) }
+pub fn children_answer(a: Result<ChildList, Refusal>) -> Answer
+    ensures { result ≡ spoken (children_said a) }
 {
-    let n = numbers::none();
-    told(answer, neighbor_values::push_children(n, list))
+    match a {
+        Ok(list) => {
+            let n = numbers::none();
+            numbers::answered(neighbor_values::push_children(n, list))
+        }
+        Err(why) => numbers::refused(why),
+    }
 }
 
-pub fn eui64s_answer(answer: neighbor_queries::Answer, list: Eui64List) -> Answer
-    ensures { result ≡ spoken (eui64s_said answer list) }
+pub fn eui64s_answer(a: Result<Eui64List, Refusal>) -> Answer
+    ensures { result ≡ spoken (eui64s_said a) }
 {
-    let n = numbers::none();
-    told(answer, neighbor_values::push_eui64s(n, list))
+    match a {
+        Ok(list) => {
+            let n = numbers::none();
+            numbers::answered(neighbor_values::push_eui64s(n, list))
+        }
+        Err(why) => numbers::refused(why),
+    }
 }
 
-pub fn nwks_answer(answer: neighbor_queries::Answer, list: NwkList) -> Answer
-    ensures { result ≡ spoken (nwks_said answer list) }
+pub fn nwks_answer(a: Result<NwkList, Refusal>) -> Answer
+    ensures { result ≡ spoken (nwks_said a) }
 {
-    let n = numbers::none();
-    told(answer, neighbor_values::push_nwks(n, list))
+    match a {
+        Ok(list) => {
+            let n = numbers::none();
+            numbers::answered(neighbor_values::push_nwks(n, list))
+        }
+        Err(why) => numbers::refused(why),
+    }
 }
 
-pub fn statuses_answer(answer: neighbor_queries::Answer, list: LinkStatusList) -> Answer
-    ensures { result ≡ spoken (statuses_said answer list) }
+pub fn statuses_answer(a: Result<LinkStatusList, Refusal>) -> Answer
+    ensures { result ≡ spoken (statuses_said a) }
+{
+    match a {
+        Ok(list) => {
+            let n = numbers::none();
+            numbers::answered(neighbor_values::push_statuses(n, list))
+        }
+        Err(why) => numbers::refused(why),
+    }
+}
+
+// Children that were removed, where the call was done.
+pub fn removed_answer(answer: Result<(), Refusal>, removed: ChildList) -> Answer
+    ensures { result ≡ spoken (removed_said answer removed) }
 {
     let n = numbers::none();
-    told(answer, neighbor_values::push_statuses(n, list))
+    told(answer, neighbor_values::push_children(n, removed))
 }
 
 // Children to claim back and children that were removed, where the call was done.
 pub fn announced_answer(
-    answer: neighbor_queries::Answer,
+    answer: Result<(), Refusal>,
     claimed: Eui64List,
     removed: ChildList,
 ) -> Answer

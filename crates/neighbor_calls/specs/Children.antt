@@ -2,7 +2,7 @@
 -- refuses (5, then 4) it leaves the rows, and with them a well-formed state (`rows-kept`).
 -- Document 01, "Refusal numbers". 05-3474, sections 3.6.10.1, 3.6.10.2 and 3.6.10.4.
 -- Assumes nothing.
-use Rattle.std.specs.Prelude.{ℕ, cond, map}
+use Rattle.std.specs.Prelude.{ℕ, cond, map, Option}
 use Rattle.types.specs.declared.Nwk.{Nwk}
 use Rattle.types.specs.declared.Eui64.{Eui64}
 use Rattle.types.specs.declared.Refusal.TheVariants.{StateIllFormed}
@@ -14,8 +14,6 @@ use Rattle.neighbor_queries.specs.declared.Filter.TheVariants.{EndDeviceChildAt,
 use Rattle.neighbor_queries.specs.Filter.{fits}
 use Rattle.neighbor_queries.specs.Lists.{child_of}
 use Rattle.neighbor_changes.specs.Change.{misses}
-use Rattle.children.specs.declared.MaybeEui64.{MaybeEui64}
-use Rattle.children.specs.declared.MaybeNwk.{MaybeNwk}
 use Rattle.children.specs.declared.ChildDescriptor.{ChildDescriptor}
 use Rattle.children.specs.Known.{known}
 use Rattle.children_lent.specs.Rules as deadlines
@@ -30,7 +28,7 @@ use Rattle.neighbor_calls.specs.declared.Removal.{Removal}
 use Rattle.neighbor_calls.specs.Outcomes.{outcome, truth_outcome, nwk_outcome, removal, refused_truth, refused_nwk, refused_removal}
 
 -- a data poll of a known device moves its deadline
-unfoldable pub refresh_child_timeout : Neighbors → MaybeEui64 → MaybeNwk → ℕ → TruthOutcome
+unfoldable pub refresh_child_timeout : Neighbors → Option Eui64 → Option Nwk → ℕ → TruthOutcome
 refresh_child_timeout s eui64 nwk now =
     cond (well_formed s)
     (truth_outcome s (deadlines.refresh_answer now (known eui64 nwk (rows s))) (deadlines.refresh_child_timeout eui64 nwk now (rows s)))

@@ -9,16 +9,16 @@ ghost use Rattle.neighbor_calls.specs.Samples.{record_lqa};
 ghost use Rattle.neighbor_calls.specs.Announcements.{refused_announced, remove_claimed_children, process_parent_annce};
 ghost use Rattle.neighbor_calls.specs.LinkStatus.{on_link_status};
 
-use children::{ChildDescriptor, MaybeEui64, MaybeNwk};
+use children::ChildDescriptor;
 use link_status::LinkStatusCommand;
-use neighbor_queries::{Answer, ChildList, Eui64List, NwkAnswer, Truth};
+use neighbor_queries::{ChildList, Eui64List};
 use neighbors::{Neighbors, Outcome};
 use types::{Eui64, Nwk, Refusal};
 
 // A yes or no, and the next state.
 #[derive(Drop)]
 pub struct TruthOutcome {
-    pub answer: Truth,
+    pub answer: Result<bool, Refusal>,
     pub state: Neighbors,
 }
 
@@ -26,13 +26,13 @@ pub struct TruthOutcome {
 #[derive(Drop)]
 pub struct NwkOutcome {
     pub state: Neighbors,
-    pub answer: NwkAnswer,
+    pub answer: Result<Option<Nwk>, Refusal>,
 }
 
 // The children that were removed, and the next state.
 #[derive(Drop)]
 pub struct Removal {
-    pub answer: Answer,
+    pub answer: Result<(), Refusal>,
     pub removed: ChildList,
     pub state: Neighbors,
 }
@@ -40,7 +40,7 @@ pub struct Removal {
 // The children to claim back, those that were removed, and the next state.
 #[derive(Drop)]
 pub struct Announced {
-    pub answer: Answer,
+    pub answer: Result<(), Refusal>,
     pub claimed: Eui64List,
     pub removed: ChildList,
     pub state: Neighbors,
@@ -51,7 +51,7 @@ fn refused_truth(state: Neighbors, refusal: Refusal) -> TruthOutcome
     ensures { result ≡ refused_truth state refusal }
 {
     TruthOutcome {
-        answer: Truth::Refused(refusal),
+        answer: Err(refusal),
         state,
     }
 }
@@ -60,7 +60,7 @@ fn refused_nwk(state: Neighbors, refusal: Refusal) -> NwkOutcome
     ensures { result ≡ refused_nwk state refusal }
 {
     NwkOutcome {
-        answer: NwkAnswer::Refused(refusal),
+        answer: Err(refusal),
         state,
     }
 }
@@ -70,7 +70,7 @@ fn refused_removal(state: Neighbors, refusal: Refusal) -> Removal
 {
     let removed = ChildList::new();
     Removal {
-        answer: Answer::Refused(refusal),
+        answer: Err(refusal),
         removed,
         state,
     }
@@ -82,7 +82,7 @@ fn refused_announced(state: Neighbors, refusal: Refusal) -> Announced
     let claimed = Eui64List::new();
     let removed = ChildList::new();
     Announced {
-        answer: Answer::Refused(refusal),
+        answer: Err(refusal),
         claimed,
         removed,
         state,
@@ -92,8 +92,8 @@ fn refused_announced(state: Neighbors, refusal: Refusal) -> Announced
 // A data poll of a known device moves its deadline (05-3474, 3.6.10.4). Answers whether the device is known.
 pub fn refresh_child_timeout(
     state: Neighbors,
-    eui64: MaybeEui64,
-    nwk: MaybeNwk,
+    eui64: Option<Eui64>,
+    nwk: Option<Nwk>,
     now: u64,
 ) -> TruthOutcome
     ensures { result ≡ refresh_child_timeout state eui64 nwk now }
@@ -314,7 +314,7 @@ pub fn evict_timed_out_children(state: Neighbors, now: u64) -> Removal
     let samples = state.samples;
     Removal {
         removed,
-        answer: Answer::Done,
+        answer: Ok(()),
         state: Neighbors {
             keys,
             nwks,
@@ -361,7 +361,7 @@ pub fn record_lqa(state: Neighbors, sender: Nwk, lqi: u8) -> Outcome
     next.samples = samples;
     next.waiting = waiting;
     Outcome {
-        answer: Answer::Done,
+        answer: Ok(()),
         state: next,
     }
 }

@@ -1,16 +1,15 @@
 -- A row that was found, with another counts word or network address: what is stored is the changed row put back.
+use Rattle.std.specs.Prelude.{Option, Some, None, Ok}
 use Prim.Native.Nat.{ℕ, ◌<◌, ◌≤◌}
 use native.Mathlib.Omega.{arith}
-use mathlib.Core.Bool.{true, false}
+use mathlib.Core.Bool.{true}
 use mathlib.Core.List.{List}
-use mathlib.Core.Option.{Option, none, some}
-use mathlib.Core.Path.{◌≡◌, refl, sym, ap, ◌∙◌}
+use mathlib.Core.Path.{◌≡◌, refl, sym, ◌∙◌}
 use lib.ListN.{length, take, get_or, set}
 use lib.Seq.{length-take-le}
 use Rattle.types.specs.declared.Nwk.{Nwk}
 use Rattle.standard.specs.Query.{first}
 use Rattle.standard.specs.Rows.{put_back}
-use Rattle.flat_map.specs.declared.Place.TheVariants.{Found}
 use Rattle.flat_map.specs.Seek.{place_of}
 use Rattle.flat_map.proofs.Places.{placed_at}
 use Rattle.columns.specs.Columns.{FirstAt}
@@ -33,18 +32,18 @@ use Rattle.neighbor_changes_lent.specs.declared.Counter.TheVariants.{Sent, Recei
 use Rattle.neighbor_changes_lent.specs.Counts.{change_of, counted}
 
 -- the place of an address that was found is in use
-pub place-below : (keys : List ℕ) (n k i : ℕ) → n ≤ length keys → Found i ≡ place_of (take n keys) k → i < n
-place-below keys n k i l p = omega (arith, (placed_at (take n keys) k (Found i) p).0, length-take-le n keys l)
+pub place-below : (keys : List ℕ) (n k i : ℕ) → n ≤ length keys → Ok i ≡ place_of (take n keys) k → i < n
+place-below keys n k i l p = omega (arith, (placed_at (take n keys) k (Ok i) p).0, length-take-le n keys l)
 
 -- the first place with a network address is the first row that has it
 module _ (t : NeighborTable) (f : Formed64 t) (nwk : Nwk) (r : ℕ) (p : FirstAt t.nwks t.count nwk.0 r) where
-  pub address-row : r < t.count → first (fits (Address nwk)) (rows_of t) ≡ some (row_at t r)
+  pub address-row : r < t.count → first (fits (Address nwk)) (rows_of t) ≡ Some (row_at t r)
   unfolding fits neighbor_from
   address-row h =
       first-row t f (fits (Address nwk)) r h (first-before t.nwks t.count nwk.0 r p)
       (first-there t.nwks t.count nwk.0 r p h)
 
-  pub no-address-row : t.count ≤ r → first (fits (Address nwk)) (rows_of t) ≡ none
+  pub no-address-row : t.count ≤ r → first (fits (Address nwk)) (rows_of t) ≡ None
   unfolding fits neighbor_from
   no-address-row h = first-no-row t f (fits (Address nwk)) (first-nowhere t.nwks t.count nwk.0 r p h)
 
@@ -61,7 +60,7 @@ row_moved : (to : Nwk) (key nwk : ℕ) (l : LinkPart) (p : CountsPart) (deadline
 unfolding neighbor_from applied
 row_moved to key nwk l p deadline period heard added beacon bytes = refl
 
-module _ (t : NeighborTable) (w : WellFormed t) (o : Option NeighborEntry) (i : ℕ) (h : i < t.count) (q : o ≡ some (row_at t i)) where
+module _ (t : NeighborTable) (w : WellFormed t) (o : Option NeighborEntry) (i : ℕ) (h : i < t.count) (q : o ≡ Some (row_at t i)) where
   -- a row is as sound as the one whose link it has
   same-link : (nwk v deadline period heard added beacon bytes : ℕ)
       → is_sound (neighbor_in (get_or t.keys i 0) nwk (get_or t.links i 0) v deadline period heard added beacon bytes) ≡ true

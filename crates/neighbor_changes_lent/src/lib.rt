@@ -16,7 +16,6 @@ ghost use Rattle.neighbor_columns.specs.Lent.{lent_keys, lent_counts, with_nwks,
 ghost use Rattle.neighbor_changes_lent.specs.declared.Counter.TheVariants.{Sent, Received, Failed};
 ghost use Rattle.neighbor_changes_lent.specs.Counts.{change_of, counted};
 
-use flat_map::Place;
 use neighbor_columns::CountsPart;
 use types::{Eui64, Nwk};
 
@@ -34,7 +33,7 @@ fn sent(part: CountsPart) -> CountsPart
 {
     let mut x = part;
     let outbound = part.router_outbound_activity;
-    x.router_outbound_activity = types::saturating_add_u8(outbound, 1);
+    x.router_outbound_activity = outbound.saturating_add(1);
     x
 }
 
@@ -44,7 +43,7 @@ fn received(part: CountsPart) -> CountsPart
 {
     let mut x = part;
     let inbound = part.router_inbound_activity;
-    x.router_inbound_activity = types::saturating_add_u8(inbound, 1);
+    x.router_inbound_activity = inbound.saturating_add(1);
     x
 }
 
@@ -54,7 +53,7 @@ fn failed(part: CountsPart) -> CountsPart
 {
     let mut x = part;
     let failures = part.transmit_failure;
-    x.transmit_failure = types::saturating_add_u8(failures, 1);
+    x.transmit_failure = failures.saturating_add(1);
     x
 }
 
@@ -77,10 +76,10 @@ fn count_at(keys: &[u64], counts: &mut [u64], count: usize, eui64: Eui64, counte
 {
     let place = neighbor_columns::place_of(keys, count, eui64);
     match place {
-        Place::Found(i) => {
+        Ok(i) => {
             counts[i] = one_more(counts[i], counter);
         }
-        Place::Missing(_) => {}
+        Err(_) => {}
     }
 }
 
@@ -118,10 +117,10 @@ pub fn update_network_address(keys: &[u64], nwks: &mut [u16], count: usize, eui6
 {
     let place = neighbor_columns::place_of(keys, count, eui64);
     match place {
-        Place::Found(i) => {
+        Ok(i) => {
             nwks[i] = nwk.0;
         }
-        Place::Missing(_) => {}
+        Err(_) => {}
     }
 }
 
@@ -130,11 +129,9 @@ pub fn reset_transmit_failures(counts: &mut [u64], count: usize)
     requires { Long 64 (counts.old ∷ []) × (count ≤ 64) }
     ensures { Changed (λ t. with_counts counts.old (with_count count t)) (λ t. with_counts counts.new (with_count count t)) (map forgiven) }
 {
-    let mut i: usize = 0;
-    while i < count {
+    for i in 0..count {
         let word = counts[i];
         counts[i] = word - word % 256;
-        i += 1;
     }
 }
 

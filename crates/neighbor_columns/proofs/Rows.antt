@@ -1,10 +1,10 @@
 -- The neighbour table under the laws of columns: the tests tell, a table is the table of its rows, the place of a key is a look-up, and a row
 -- stored over that of its key, put in or taken out is the same step on the rows. Rows that fit still fit after each step.
+use Rattle.std.specs.Prelude.{Option, Some, None, Result, Ok, Err}
 use Prim.Native.Nat.{ℕ, zero, suc, ◌+◌, ◌-◌, ◌<◌, ◌≤◌}
 use native.Mathlib.Omega.{arith}
 use mathlib.Core.Bool.{Bool, true, false, true≢false, false≢true}
 use mathlib.Core.List.{List, [], ◌∷◌, map}
-use mathlib.Core.Option.{Option, none, some}
 use mathlib.Core.Path.{◌≡◌, refl, sym, ap, ◌∙◌, subst}
 use lib.Dec.{leb}
 use lib.ListN.{length, take, drop, get_or}
@@ -13,14 +13,12 @@ use Rattle.standard.specs.Ordered.{lookup, put, remove, keep, count_with}
 use Rattle.standard.specs.Query.{entry_at, first}
 use Rattle.standard.specs.Rows.{put_back}
 use Rattle.standard.specs.Tells.{Tells}
-use Rattle.standard.proofs.Tells.{yes-so, tells-one, tells-lt, tells-true, tells_both, tells-so}
-use Rattle.flat_map.specs.declared.Place.{Place}
-use Rattle.flat_map.specs.declared.Place.TheVariants.{Found, Missing}
+use Rattle.standard.proofs.Tells.{yes-so, tells-lt, tells-true, tells_both, tells-so}
 use Rattle.flat_map.specs.Rows.{remove_at}
 use Rattle.flat_map.specs.Seek.{place_of}
 use Rattle.flat_map.specs.Table.{Each, Formed, Rising, every}
 use Rattle.flat_map.proofs.Each.{each_placed, each_at, each-put, each-remove, each_keep}
-use Rattle.flat_map.proofs.Every.{every-at, every-lookup, every-put, every-remove, every-keep, every_map}
+use Rattle.flat_map.proofs.Every.{every-at, every-put, every-remove, every-keep, every_map}
 use Rattle.flat_map.proofs.Fits as flat-fits
 use Rattle.flat_map.proofs.Ordered.{count-with-missing}
 use Rattle.flat_map.proofs.Query.{entry-in-use, entry-not-in-use, next_row, no_row, first-at, first-none}
@@ -35,12 +33,10 @@ use Rattle.columns.proofs.View as view
 use Rattle.neighbor_columns.specs.declared.LinkPart.{LinkPart}
 use Rattle.neighbor_columns.specs.declared.CountsPart.{CountsPart}
 use Rattle.neighbor_table.specs.declared.NeighborEntry.{NeighborEntry}
-use Rattle.neighbor_table.specs.declared.NeighborLookup.{NeighborLookup}
 use Rattle.neighbor_table.specs.Entry.{neighbor_key, blank_neighbor, is_sound}
 use Rattle.neighbor_columns.specs.Codec.{part_sound}
 use Rattle.neighbor_columns.specs.Codec.{neighbor_from, neighbor_of, neighbor_numbers, CleanLink, Clean, InRange}
 use Rattle.neighbor_columns.specs.Table.{NeighborTable, in_columns, others, rows_of, row_at, InPlaces, table_of, CleanLinks, clean_link, Formed64, formed64, WellFormed, well_formed, Fits, FitRows, Keeps, Holds, replaced, inserted, removed}
-use Rattle.neighbor_table.specs.Lookup.{looked}
 use Rattle.neighbor_columns.proofs.Codec.{codec, zero-clean, read-in-range}
 
 -- the test of a link word, of all of them, and of a table
@@ -153,10 +149,10 @@ module _ (t : NeighborTable) (f : Formed64 t) where
   pub row-at : (i : ℕ) → i < t.count → get_or (rows_of t) i blank_neighbor ≡ row_at t i
   row-at = view.row_is 64 10 neighbor_key blank_neighbor neighbor_of neighbor_numbers Clean InRange codec t.keys (others t) t.count (table-sound t f)
 
-  pub row-in-use : (i : ℕ) → i < t.count → entry_at i (rows_of t) ≡ some (row_at t i)
-  row-in-use i h = entry-in-use 64 neighbor_key blank_neighbor t.keys (entries neighbor_of 64 (t.keys ∷ others t)) t.count flat-table i h ∙ ap some (row_reads i)
+  pub row-in-use : (i : ℕ) → i < t.count → entry_at i (rows_of t) ≡ Some (row_at t i)
+  row-in-use i h = entry-in-use 64 neighbor_key blank_neighbor t.keys (entries neighbor_of 64 (t.keys ∷ others t)) t.count flat-table i h ∙ ap Some (row_reads i)
 
-  pub row-not-in-use : (i : ℕ) → t.count ≤ i → entry_at i (rows_of t) ≡ none
+  pub row-not-in-use : (i : ℕ) → t.count ≤ i → entry_at i (rows_of t) ≡ None
   row-not-in-use i h = entry-not-in-use 64 neighbor_key blank_neighbor t.keys (entries neighbor_of 64 (t.keys ∷ others t)) t.count flat-table i h
 
   pub sound-row : every is_sound (rows_of t) ≡ true → (i : ℕ) → i < t.count → is_sound (row_at t i) ≡ true
@@ -176,58 +172,58 @@ module _ (t : NeighborTable) (f : Formed64 t) where
     before : (i : ℕ) → i ≤ t.count → ((j : ℕ) → j < i → fits (row_at t j) ≡ false) → (j : ℕ) → j < i → fits (get_or (rows_of t) j blank_neighbor) ≡ false
     before i h b j l = ap fits (row-at j (omega arith)) ∙ b j l
 
-    pub first-row : (i : ℕ) → i < t.count → ((j : ℕ) → j < i → fits (row_at t j) ≡ false) → fits (row_at t i) ≡ true → first fits (rows_of t) ≡ some (row_at t i)
+    pub first-row : (i : ℕ) → i < t.count → ((j : ℕ) → j < i → fits (row_at t j) ≡ false) → fits (row_at t i) ≡ true → first fits (rows_of t) ≡ Some (row_at t i)
     first-row i h b q =
-        first-at fits blank_neighbor (rows_of t) i (omega (arith, h, many)) (before i (omega arith) b) (ap fits (row-at i h) ∙ q) ∙ ap some (row-at i h)
+        first-at fits blank_neighbor (rows_of t) i (omega (arith, h, many)) (before i (omega arith) b) (ap fits (row-at i h) ∙ q) ∙ ap Some (row-at i h)
 
-    pub first-no-row : ((j : ℕ) → j < t.count → fits (row_at t j) ≡ false) → first fits (rows_of t) ≡ none
+    pub first-no-row : ((j : ℕ) → j < t.count → fits (row_at t j) ≡ false) → first fits (rows_of t) ≡ None
     first-no-row b = first-none fits blank_neighbor (rows_of t) (λ j l. before t.count (omega arith) b j (omega (arith, l, many)))
 
   -- what the place of an address says of the rows
   module _ (k i : ℕ) where
-    pub place-within : Found i ≡ place_of (take t.count t.keys) k → i < t.count
+    pub place-within : Ok i ≡ place_of (take t.count t.keys) k → i < t.count
     place-within = rows.found_below 64 10 neighbor_key blank_neighbor neighbor_of neighbor_numbers Clean InRange codec t.keys (others t) t.count (table-sound t f) k i
 
-    pub found-key : Found i ≡ place_of (take t.count t.keys) k → get_or t.keys i 0 ≡ k
+    pub found-key : Ok i ≡ place_of (take t.count t.keys) k → get_or t.keys i 0 ≡ k
     found-key = rows.found-key 64 10 neighbor_key blank_neighbor neighbor_of neighbor_numbers Clean InRange codec t.keys (others t) t.count (table-sound t f) k i
 
-    pub found-row : Found i ≡ place_of (take t.count t.keys) k → lookup neighbor_key k (rows_of t) ≡ some (row_at t i)
+    pub found-row : Ok i ≡ place_of (take t.count t.keys) k → lookup neighbor_key k (rows_of t) ≡ Some (row_at t i)
     found-row = rows.found 64 10 neighbor_key blank_neighbor neighbor_of neighbor_numbers Clean InRange codec t.keys (others t) t.count (table-sound t f) k i
 
-    pub missing-row : Missing i ≡ place_of (take t.count t.keys) k → lookup neighbor_key k (rows_of t) ≡ none
+    pub missing-row : Err i ≡ place_of (take t.count t.keys) k → lookup neighbor_key k (rows_of t) ≡ None
     missing-row = rows.missing 64 10 neighbor_key blank_neighbor neighbor_of neighbor_numbers Clean InRange codec t.keys (others t) t.count (table-sound t f) k i
 
-    pub missing-within : Missing i ≡ place_of (take t.count t.keys) k → i ≤ t.count
+    pub missing-within : Err i ≡ place_of (take t.count t.keys) k → i ≤ t.count
     missing-within = flat.missing-within 64 neighbor_key blank_neighbor t.keys (entries neighbor_of 64 (t.keys ∷ others t)) t.count flat-table k i
 
     -- an address that is missing and has room has a free place
-    pub free : Missing i ≡ place_of (take t.count t.keys) k → count_with neighbor_key k (rows_of t) ≤ 64 → t.count < 64
+    pub free : Err i ≡ place_of (take t.count t.keys) k → count_with neighbor_key k (rows_of t) ≤ 64 → t.count < 64
     free p room = omega (arith, room, many, count-with-missing neighbor_key k (rows_of t) (missing-row p))
 
-  pub own-place : (i : ℕ) → i < t.count → Found i ≡ place_of (take t.count t.keys) (get_or t.keys i 0)
+  pub own-place : (i : ℕ) → i < t.count → Ok i ≡ place_of (take t.count t.keys) (get_or t.keys i 0)
   own-place = rows.own-place 64 10 neighbor_key blank_neighbor neighbor_of neighbor_numbers Clean InRange codec t.keys (others t) t.count (table-sound t f)
 
-  pub room-told : (k : ℕ) (p : Place) → p ≡ place_of (take t.count t.keys) k → leb (count_with neighbor_key k (rows_of t)) 64 ≡ room_for p t.count 64
+  pub room-told : (k : ℕ) (p : Result ℕ ℕ) → p ≡ place_of (take t.count t.keys) k → leb (count_with neighbor_key k (rows_of t)) 64 ≡ room_for p t.count 64
   room-told = rows.room-told 64 10 neighbor_key blank_neighbor neighbor_of neighbor_numbers Clean InRange codec t.keys (others t) t.count (table-sound t f)
 
   -- a neighbour that is there has its place
-  pub room-for : (k : ℕ) (e : NeighborEntry) → lookup neighbor_key k (rows_of t) ≡ some e → count_with neighbor_key k (rows_of t) ≤ 64
+  pub room-for : (k : ℕ) (e : NeighborEntry) → lookup neighbor_key k (rows_of t) ≡ Some e → count_with neighbor_key k (rows_of t) ≤ 64
   room-for k e h = flat-fits.room-known 64 neighbor_key blank_neighbor (rows_of t) rows-fits.fit k e h
 
   -- a row stored over that of its address, and put in where there is none
   module _ (e : NeighborEntry) (r : InRange e) (i : ℕ) where
-    pub stored-over : Found i ≡ place_of (take t.count t.keys) (neighbor_key e) → Keeps (replaced t i e) (put neighbor_key e (rows_of t))
+    pub stored-over : Ok i ≡ place_of (take t.count t.keys) (neighbor_key e) → Keeps (replaced t i e) (put neighbor_key e (rows_of t))
     stored-over p =
         let h = rows.over-put 64 10 neighbor_key blank_neighbor neighbor_of neighbor_numbers Clean InRange codec t.keys (others t) t.count (table-sound t f) e r i p in
         record { formed = sound-formed (replaced t i e) h.0; rows = h.1 }
 
-    pub put_in : Missing i ≡ place_of (take t.count t.keys) (neighbor_key e) → t.count < 64 → Keeps (inserted t i e) (put neighbor_key e (rows_of t))
+    pub put_in : Err i ≡ place_of (take t.count t.keys) (neighbor_key e) → t.count < 64 → Keeps (inserted t i e) (put neighbor_key e (rows_of t))
     put_in p l =
         let h = rows.in-put 64 10 neighbor_key blank_neighbor neighbor_of neighbor_numbers Clean InRange codec t.keys (others t) t.count (table-sound t f) e r i p l in
         record { formed = sound-formed (inserted t i e) h.0; rows = h.1 }
 
   -- a row taken out, by its address or by its place, and one that is not there
-  pub taken_out : (k i : ℕ) → Found i ≡ place_of (take t.count t.keys) k → Keeps (removed t i) (remove neighbor_key k (rows_of t))
+  pub taken_out : (k i : ℕ) → Ok i ≡ place_of (take t.count t.keys) k → Keeps (removed t i) (remove neighbor_key k (rows_of t))
   taken_out k i p =
       let h = rows.out-key 64 10 neighbor_key blank_neighbor neighbor_of neighbor_numbers Clean InRange codec t.keys (others t) t.count (table-sound t f) i k p in
       record { formed = sound-formed (removed t i) h.0; rows = h.1 }
@@ -237,7 +233,7 @@ module _ (t : NeighborTable) (f : Formed64 t) where
       let h = rows.out_at 64 10 neighbor_key blank_neighbor neighbor_of neighbor_numbers Clean InRange codec t.keys (others t) t.count (table-sound t f) i l in
       record { formed = sound-formed (removed t i) h.0; rows = h.1 }
 
-  pub none_out : (k i : ℕ) → Missing i ≡ place_of (take t.count t.keys) k → Keeps t (remove neighbor_key k (rows_of t))
+  pub none_out : (k i : ℕ) → Err i ≡ place_of (take t.count t.keys) k → Keeps t (remove neighbor_key k (rows_of t))
   none_out k i p = record { formed = f; rows = sym (flat.remove_absent neighbor_key blank_neighbor k (rows_of t) (missing-row k i p)) }
 
 pub table-fit : (t : NeighborTable) → WellFormed t → FitRows (rows_of t)
@@ -252,13 +248,13 @@ remove-holds t u k w h = keeps-holds u (remove neighbor_key k (rows_of t)) h (ev
 
 -- a row that was found, changed by g and put back: the store of what g makes of it, which has to be sound; and where none was found
 module _ (t : NeighborTable) (w : WellFormed t) (g : NeighborEntry → NeighborEntry) (o : Option NeighborEntry) where
-  pub changed-holds : (u : NeighborTable) (i : ℕ) (e : NeighborEntry) → o ≡ some (row_at t i) → e ≡ g (row_at t i) → is_sound e ≡ true → Keeps u (put neighbor_key e (rows_of t))
+  pub changed-holds : (u : NeighborTable) (i : ℕ) (e : NeighborEntry) → o ≡ Some (row_at t i) → e ≡ g (row_at t i) → is_sound e ≡ true → Keeps u (put neighbor_key e (rows_of t))
       → Holds u (put_back neighbor_key g o (rows_of t))
   changed-holds u i e q p s k =
       subst (Holds u) (sym (ap (λ (x : Option NeighborEntry). put_back neighbor_key g x (rows_of t)) q ∙ ap (λ (x : NeighborEntry). put neighbor_key x (rows_of t)) (sym p)))
       (put_holds t u e w s k)
 
-  pub unchanged-holds : o ≡ none → Holds t (put_back neighbor_key g o (rows_of t))
+  pub unchanged-holds : o ≡ None → Holds t (put_back neighbor_key g o (rows_of t))
   unchanged-holds q = record { formed = w; rows = sym (ap (λ (x : Option NeighborEntry). put_back neighbor_key g x (rows_of t)) q) }
 
 -- a table that holds rows is the table of these
@@ -292,15 +288,6 @@ table-holds xs h = keeps-holds (table_of xs) xs (made-keeps xs h.fits) h.sound
 
 pub table-formed : (xs : List NeighborEntry) → FitRows xs → WellFormed (table_of xs)
 table-formed xs h = (table-holds xs h).formed
-
--- what a look-up's answer says
-pub found_none : (o : Option NeighborEntry) (r : NeighborLookup) → r ≡ looked o → r.found ≡ false → o ≡ none
-found_none none r e h = refl
-found_none (some x) r e h = absurd (true≢false (sym (ap (λ (l : NeighborLookup). l.found) e) ∙ h))
-
-pub found_some : (o : Option NeighborEntry) (r : NeighborLookup) → r ≡ looked o → r.found ≡ true → o ≡ some r.entry
-found_some none r e h = absurd (false≢true (sym (ap (λ (l : NeighborLookup). l.found) e) ∙ h))
-found_some (some x) r e h = ap some (sym (ap (λ (l : NeighborLookup). l.entry) e))
 
 -- the steps on rows that fit
 pub fit_none : FitRows []

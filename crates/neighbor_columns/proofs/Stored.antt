@@ -1,10 +1,10 @@
 -- Numbers stored in some columns at a place in use are `put` of the row that these numbers give: in all columns, and in those that calls change.
 -- Where a word is that of a part, the row has the part.
+use Rattle.std.specs.Prelude.{Ok}
 use Prim.Native.Nat.{ℕ, ◌+◌, ◌<◌}
 use mathlib.Core.Path.{◌≡◌, sym, ap, ◌∙◌, subst}
 use lib.ListN.{take, get_or, set}
 use Rattle.standard.specs.Ordered.{put}
-use Rattle.flat_map.specs.declared.Place.TheVariants.{Found}
 use Rattle.flat_map.specs.Seek.{place_of}
 use Rattle.flat_map.specs.Shift.{shift_in}
 use Rattle.columns.proofs.Rows as rows
@@ -45,7 +45,7 @@ module _ (t : NeighborTable) (f : Formed64 t) (i : ℕ) (h : i < t.count) where
         e : NeighborEntry
         e = neighbor_in (get_or t.keys i 0) nwk link counts deadline period late new beacon bytes
 
-        place : Found i ≡ place_of (take t.count t.keys) (neighbor_key e)
+        place : Ok i ≡ place_of (take t.count t.keys) (neighbor_key e)
         place = own-place t f i h ∙ ap (place_of (take t.count t.keys)) (sym (key-read (get_or t.keys i 0) nwk link counts deadline period late new beacon bytes))
 
   -- another network address

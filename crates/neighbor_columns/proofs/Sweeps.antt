@@ -2,14 +2,14 @@
 use Prim.Native.Nat.{ℕ, ◌+◌, ◌<◌, ◌≤◌}
 use mathlib.Core.Bool.{Bool, true, false}
 use mathlib.Core.List.{List, ◌∷◌, map}
-use mathlib.Core.Path.{◌≡◌, sym, subst, ◌∙◌}
+use mathlib.Core.Path.{◌≡◌, subst, ◌∙◌}
 use lib.ListN.{get_or, set}
 use Rattle.standard.specs.Ordered.{keep}
 use Rattle.columns.proofs.Rows as rows
 use Rattle.columns.proofs.Sweep as sweep
 use Rattle.neighbor_table.specs.declared.NeighborEntry.{NeighborEntry}
 use Rattle.neighbor_table.specs.Entry.{neighbor_key, blank_neighbor}
-use Rattle.neighbor_columns.specs.Codec.{neighbor_numbers, neighbor_of, neighbor_in, CleanLink, Clean, InRange}
+use Rattle.neighbor_columns.specs.Codec.{neighbor_numbers, neighbor_of, neighbor_in, Clean, InRange}
 use Rattle.neighbor_columns.specs.Lent.{with_counts}
 use Rattle.neighbor_columns.specs.Table.{NeighborTable, in_columns, others, rows_of, row_at, Formed64, Keeps, replaced, removed}
 use Rattle.neighbor_columns.proofs.Codec.{codec, read-in-range}

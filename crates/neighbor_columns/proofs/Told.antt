@@ -1,20 +1,19 @@
 -- The tests of the columns, together: what each tells of one column tells of a table.
-use Prim.Native.Nat.{ℕ, ◌/◌, ◌%◌, ◌<◌, ◌≤◌}
+use Prim.Native.Nat.{ℕ, ◌/◌, ◌%◌, ◌≤◌}
 use native.Mathlib.Omega.{arith}
 use mathlib.Core.Bool.{Bool, true, false, not, ◌&&◌}
 use mathlib.Core.List.{List, ◌∷◌}
 use mathlib.Core.Logic.{⊎_elim}
 use mathlib.Core.Path.{◌≡◌, refl, sym, ap, ◌∙◌, subst}
 use lib.Dec.{leb}
-use lib.ListN.{length, take, get_or}
+use lib.ListN.{length, get_or}
 use Rattle.standard.specs.Tells.{Tells}
 use Rattle.standard.proofs.Tells.{tells-one, tells-true, tells_both, tells-so}
-use Rattle.flat_map.specs.Table.{Rising, ZeroFrom, every}
+use Rattle.flat_map.specs.Table.{Rising, ZeroFrom}
 use Rattle.flat_map.proofs.Compare.{below_or_not}
 use Rattle.flat_map.proofs.Each.{each-told, each_placed}
 use Rattle.columns.specs.Columns.{Ordered, entries}
 use Rattle.columns.proofs.Places.{entries-length}
-use Rattle.columns.proofs.Tested.{Passed, past}
 use Rattle.ring_buffer.specs.Ring as ring
 use Rattle.ring_buffer.specs.Word as word
 use Rattle.neighbor_table.specs.declared.NeighborEntry.{NeighborEntry}
@@ -100,11 +99,3 @@ module _ (t : NeighborTable) where
 pub link-told : (w : ℕ) → Tells (SoundLink w) ((leb ((w / 1099511627776) % 256) 7 && ring.well_formed (word.ring_of w)) && clean_link w)
 unfolding part_sound link_of
 link-told w = tells-so (λ p. (p.1, p.0)) (λ q. (q.1, q.0)) (tells_both (tells-true _) (clean-told w))
-
--- the loops over link words, at their end
-pub clean-passed : (xs : List ℕ) (i : ℕ) (ok : Bool) → length xs ≤ i → Tells (Passed (λ (j : ℕ). CleanLink (get_or xs j 0)) 0 i) ok → Tells (CleanLinks xs) ok
-clean-passed xs i ok h =
-    tells-so (λ f j. ⊎_elim (λ l. f j l (omega arith)) (λ l. subst CleanLink (sym (past xs j (omega arith))) zero-clean) (below_or_not j i)) (λ c j l m. c j)
-
-pub sound-passed : (xs : List ℕ) (n i : ℕ) (ok : Bool) → n ≤ i → i ≤ n → Tells (Passed (λ (j : ℕ). SoundLink (get_or xs j 0)) 0 i) ok → Tells (SoundLinks xs n) ok
-sound-passed xs n i ok h k = tells-so (λ f j l. f j (omega arith) (omega arith)) (λ s j l m. s j (omega arith))

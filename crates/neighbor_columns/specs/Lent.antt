@@ -3,7 +3,7 @@
 -- Assumes nothing.
 use Rattle.std.specs.Prelude.{ℕ, List}
 use Rattle.neighbor_table.specs.declared.NeighborEntry.{NeighborEntry}
-use Rattle.neighbor_columns.specs.Table.{NeighborTable, in_columns, rows_of, Formed64, WellFormed, Keeps, Holds}
+use Rattle.neighbor_columns.specs.Table.{NeighborTable, in_columns, rows_of, Formed64, WellFormed, Holds}
 
 -- t with another column or count
 abbrev pub with_keys : List ℕ → NeighborTable → NeighborTable

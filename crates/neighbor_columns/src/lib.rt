@@ -2,7 +2,6 @@
 #![tactic(auto)]
 
 ghost use Rattle.std.specs.Prelude.{[], ◌∷◌, ◌≡◌, ◌+◌, ◌*◌, ◌≤◌, ◌<◌, min, leb, length, take};
-ghost use Rattle.std.proofs.Math.Option.{none, some};
 ghost use mir.Val.{bool_byte};
 ghost use Rattle.standard.specs.Ordered.{lookup, count_with};
 ghost use Rattle.standard.specs.Query.{entry_at};
@@ -11,14 +10,13 @@ ghost use Rattle.flat_map.specs.Seek.{place_of};
 ghost use Rattle.flat_map.specs.Table.{Rising, ZeroFrom};
 ghost use Rattle.columns.specs.Columns.{Ordered};
 ghost use Rattle.neighbor_columns.specs.Kinds.{device_type_of, relationship_of};
-ghost use Rattle.neighbor_table.specs.Entry.{is_router, is_end_device, is_child_of, quality_of, cost_of, device_type_number, relationship_number, neighbor_key, blank_neighbor};
+ghost use Rattle.neighbor_table.specs.Entry.{neighbor_key};
 ghost use Rattle.neighbor_columns.specs.Codec.{LinkRange, CountsRange, InRange, link_of, link_word, counts_of, counts_word, low_half, high_half, pair_word, link_part, counts_part, neighbor_numbers, numbers_in, neighbor_in};
 ghost use Rattle.neighbor_columns.specs.Table.{in_columns, row_at, rows_of, InPlaces, clean_link, CleanLinks, SoundLink, SoundLinks, Formed64, formed64, well_formed};
-ghost use Rattle.neighbor_table.specs.Lookup.{looked};
 ghost use Rattle.neighbor_columns.specs.Lent.{lent_keys, Asked};
 
-use flat_map::Place;
-use neighbor_table::{NeighborEntry, NeighborLookup, NwkDeviceType, Relationship};
+use columns::Number;
+use neighbor_table::{NeighborEntry, NwkDeviceType, Relationship};
 use ring_buffer::RingBuffer;
 use types::{Eui64, Nwk};
 
@@ -121,7 +119,7 @@ pub fn link_of(word: u64) -> LinkPart
 fn bit(b: bool) -> u64
     ensures { (result ≡ bool_byte b) × (result < 2) }
 {
-    if b { 1 } else { 0 }
+    u64::from(b)
 }
 
 // The fields of a link word, put together.
@@ -325,18 +323,10 @@ pub fn words_of(e: NeighborEntry) -> Words
 }
 
 // Whether a column has 64 places and is 0 from the count on.
-fn ends16(a: &[u16], count: usize) -> bool
-    ensures { Tells ((length a.now ≡ 64) × ZeroFrom a.now count) result }
+fn ends<T: Number>(a: &[T], count: usize) -> bool
+    ensures { Tells ((length a.now ≡ 64) × ZeroFrom (T.nats a.now) count) result }
 {
-    let blank = columns::zero_from16(a, count);
-    (a.len() == 64) & blank
-}
-
-// The same of a column of 64 bits.
-fn ends64(a: &[u64], count: usize) -> bool
-    ensures { Tells ((length a.now ≡ 64) × ZeroFrom a.now count) result }
-{
-    let blank = columns::zero_from64(a, count);
+    let blank = columns::zero_from(a, count);
     (a.len() == 64) & blank
 }
 
@@ -356,16 +346,16 @@ fn in_order(
 ) -> bool
     ensures { Tells (Ordered 64 keys.now (nwks.now ∷ links.now ∷ counts.now ∷ deadlines.now ∷ periods.now ∷ heard.now ∷ added.now ∷ beacons.now ∷ bytes.now ∷ []) count) result }
 {
-    let keys_end = ends64(keys, count);
-    let nwks_end = ends16(nwks, count);
-    let links_end = ends64(links, count);
-    let counts_end = ends64(counts, count);
-    let deadlines_end = ends64(deadlines, count);
-    let periods_end = ends64(periods, count);
-    let heard_end = ends64(heard, count);
-    let added_end = ends64(added, count);
-    let beacons_end = ends64(beacons, count);
-    let bytes_end = ends64(bytes, count);
+    let keys_end = ends(keys, count);
+    let nwks_end = ends(nwks, count);
+    let links_end = ends(links, count);
+    let counts_end = ends(counts, count);
+    let deadlines_end = ends(deadlines, count);
+    let periods_end = ends(periods, count);
+    let heard_end = ends(heard, count);
+    let added_end = ends(added, count);
+    let beacons_end = ends(beacons, count);
+    let bytes_end = ends(bytes, count);
     let all = keys_end
         & nwks_end
         & links_end
@@ -382,7 +372,7 @@ fn in_order(
     if 64 < count {
         return false;
     }
-    columns::rising64(keys, count)
+    columns::rising(keys, count)
 }
 
 // Whether a link word names a device type and a relationship.
@@ -397,10 +387,8 @@ fn clean_links(links: &[u64]) -> bool
     ensures { Tells (CleanLinks links.now) result }
 {
     let mut ok = true;
-    let mut i: usize = 0;
-    while i < links.len() {
-        ok = ok & clean_link(links[i]);
-        i += 1;
+    for w in links {
+        ok = ok & clean_link(*w);
     }
     ok
 }
@@ -420,10 +408,8 @@ fn sound_links(links: &[u64], count: usize) -> bool
     ensures { Tells (SoundLinks links.now count) result }
 {
     let mut ok = true;
-    let mut i: usize = 0;
-    while i < count {
-        ok = ok & sound_link(links[i]);
-        i += 1;
+    for w in &links[..count] {
+        ok = ok & sound_link(*w);
     }
     ok
 }
@@ -479,7 +465,7 @@ pub fn well_formed(
 }
 
 // Where the neighbour of an address stands, or would stand.
-pub fn place_of(keys: &[u64], count: usize, eui64: Eui64) -> Place
+pub fn place_of(keys: &[u64], count: usize, eui64: Eui64) -> Result<usize, usize>
     requires { (count ≤ length keys.now) × Rising keys.now count }
     ensures { result ≡ place_of (take count keys.now) eui64.0 }
 {
@@ -540,19 +526,16 @@ pub fn find(
     bytes: &[u64],
     count: usize,
     eui64: Eui64,
-) -> NeighborLookup
+) -> Option<NeighborEntry>
     requires { Formed64 (in_columns keys.now nwks.now links.now counts.now deadlines.now periods.now heard.now added.now beacons.now bytes.now count) }
-    ensures { result ≡ looked (lookup neighbor_key eui64.0 (rows_of (in_columns keys.now nwks.now links.now counts.now deadlines.now periods.now heard.now added.now beacons.now bytes.now count))) }
+    ensures { result ≡ lookup neighbor_key eui64.0 (rows_of (in_columns keys.now nwks.now links.now counts.now deadlines.now periods.now heard.now added.now beacons.now bytes.now count)) }
 {
     let place = place_of(keys, count, eui64);
     match place {
-        Place::Found(i) => {
-            let e = entry_at(
-                keys, nwks, links, counts, deadlines, periods, heard, added, beacons, bytes, i,
-            );
-            neighbor_table::found(e)
-        }
-        Place::Missing(_) => neighbor_table::missing(),
+        Ok(i) => Some(entry_at(
+            keys, nwks, links, counts, deadlines, periods, heard, added, beacons, bytes, i,
+        )),
+        Err(_) => None,
     }
 }
 
@@ -570,15 +553,14 @@ pub fn at(
     bytes: &[u64],
     count: usize,
     i: usize,
-) -> NeighborLookup
+) -> Option<NeighborEntry>
     requires { Formed64 (in_columns keys.now nwks.now links.now counts.now deadlines.now periods.now heard.now added.now beacons.now bytes.now count) }
-    ensures { result ≡ looked (entry_at i (rows_of (in_columns keys.now nwks.now links.now counts.now deadlines.now periods.now heard.now added.now beacons.now bytes.now count))) }
+    ensures { result ≡ entry_at i (rows_of (in_columns keys.now nwks.now links.now counts.now deadlines.now periods.now heard.now added.now beacons.now bytes.now count)) }
 {
     if count <= i {
-        return neighbor_table::missing();
+        return None;
     }
-    let e = entry_at(
+    Some(entry_at(
         keys, nwks, links, counts, deadlines, periods, heard, added, beacons, bytes, i,
-    );
-    neighbor_table::found(e)
+    ))
 }

@@ -12,7 +12,7 @@ use Rattle.neighbor_calls.specs.Children as children
 use Rattle.neighbor_calls.specs.declared.Announced.{Announced}
 use Rattle.neighbor_calls.specs.Announcements as announcements
 use Rattle.neighbor_calls.specs.LinkStatus.{on_link_status}
-use Rattle.neighbor_answers.specs.Answers.{truth_said, nwk_said, children_said, announced_said}
+use Rattle.neighbor_answers.specs.Answers.{truth_said, nwk_said, removed_said, announced_said}
 use Rattle.child_arguments.specs.declared.Poll.{Poll}
 use Rattle.child_arguments.specs.Arguments.{poll_of, child_of, names_of, command_of}
 use Rattle.neighbor_groups.specs.Events.{changed}
@@ -25,7 +25,7 @@ abbrev pub nwk_reply : NwkOutcome → NeighborsReply
 nwk_reply o = replied o.state (nwk_said o.answer)
 
 abbrev pub removal_reply : Removal → NeighborsReply
-removal_reply o = replied o.state (children_said o.answer o.removed)
+removal_reply o = replied o.state (removed_said o.answer o.removed)
 
 abbrev pub announced_reply : Announced → NeighborsReply
 announced_reply o = replied o.state (announced_said o.answer o.claimed o.removed)

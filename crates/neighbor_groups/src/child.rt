@@ -39,7 +39,7 @@ fn removal_reply(outcome: Removal) -> NeighborsReply
     let state = outcome.state;
     let answer = outcome.answer;
     let removed = outcome.removed;
-    let said = neighbor_answers::children_answer(answer, removed);
+    let said = neighbor_answers::removed_answer(answer, removed);
     NeighborsReply {
         answer: said,
         state,

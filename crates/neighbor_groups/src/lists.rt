@@ -3,20 +3,18 @@ ghost use Rattle.std.specs.Prelude.{◌≡◌};
 ghost use Rattle.standard.specs.Ordered.{lookup};
 ghost use Rattle.numbers.specs.Said.{spoken};
 ghost use Rattle.neighbor_table.specs.Entry.{neighbor_key};
-ghost use Rattle.neighbor_table.specs.Lookup.{looked};
 ghost use Rattle.neighbors.specs.State.{WellFormed, rows};
 ghost use Rattle.neighbor_groups.specs.Lists.{entry_of, lqa_call, incoming_link_cost_call, is_child_call, sleepy_children_call, end_device_children_call, expected_broadcast_relayers_call, link_status_entries_call};
 
-use neighbor_queries::{EntryAnswer, Presence};
-use neighbor_table::NeighborLookup;
+use neighbor_table::NeighborEntry;
 use neighbors::Neighbors;
 use numbers::Answer;
 use types::{Eui64, Refusal};
 
 // What stands under an extended address.
-fn look_up(state: Neighbors, eui64: Eui64) -> NeighborLookup
+fn look_up(state: Neighbors, eui64: Eui64) -> Option<NeighborEntry>
     requires { WellFormed state }
-    ensures { result ≡ looked (lookup neighbor_key eui64.0 (rows state)) }
+    ensures { result ≡ lookup neighbor_key eui64.0 (rows state) }
 {
     let keys = state.keys;
     let nwks = state.nwks;
@@ -45,30 +43,13 @@ fn look_up(state: Neighbors, eui64: Eui64) -> NeighborLookup
 }
 
 // The neighbour of an extended address.
-fn entry_of(state: Neighbors, eui64: Eui64) -> EntryAnswer
+fn entry_of(state: Neighbors, eui64: Eui64) -> Result<Option<NeighborEntry>, Refusal>
     ensures { result ≡ entry_of state eui64 }
 {
     if !state.well_formed() {
-        let missing = neighbor_table::missing();
-        let entry = missing.entry;
-        return EntryAnswer {
-            answer: Presence::Refused(Refusal::StateIllFormed),
-            entry,
-        };
+        return Err(Refusal::StateIllFormed);
     }
-    let found = look_up(state, eui64);
-    let entry = found.entry;
-    if found.found {
-        EntryAnswer {
-            answer: Presence::Found,
-            entry,
-        }
-    } else {
-        EntryAnswer {
-            answer: Presence::Nothing,
-            entry,
-        }
-    }
+    Ok(look_up(state, eui64))
 }
 
 // The quality at which a neighbour is heard.
@@ -100,9 +81,7 @@ pub fn sleepy_children(state: Neighbors, args: &[u64]) -> Answer
     ensures { result ≡ spoken (sleepy_children_call state args.now) }
 {
     let said = state.sleepy_children();
-    let answer = said.answer;
-    let list = said.list;
-    neighbor_answers::children_answer(answer, list)
+    neighbor_answers::children_answer(said)
 }
 
 // Every end device child.
@@ -110,9 +89,7 @@ pub fn end_device_children(state: Neighbors, args: &[u64]) -> Answer
     ensures { result ≡ spoken (end_device_children_call state args.now) }
 {
     let said = state.end_device_children();
-    let answer = said.answer;
-    let list = said.list;
-    neighbor_answers::eui64s_answer(answer, list)
+    neighbor_answers::eui64s_answer(said)
 }
 
 // The routers that are expected to relay a broadcast.
@@ -120,9 +97,7 @@ pub fn expected_broadcast_relayers(state: Neighbors, args: &[u64]) -> Answer
     ensures { result ≡ spoken (expected_broadcast_relayers_call state args.now) }
 {
     let said = state.expected_broadcast_relayers();
-    let answer = said.answer;
-    let list = said.list;
-    neighbor_answers::nwks_answer(answer, list)
+    neighbor_answers::nwks_answer(said)
 }
 
 // The link statuses that are advertised.
@@ -130,7 +105,5 @@ pub fn link_status_entries(state: Neighbors, args: &[u64]) -> Answer
     ensures { result ≡ spoken (link_status_entries_call state args.now) }
 {
     let said = state.link_status_entries();
-    let answer = said.answer;
-    let list = said.list;
-    neighbor_answers::statuses_answer(answer, list)
+    neighbor_answers::statuses_answer(said)
 }

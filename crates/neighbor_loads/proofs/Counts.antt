@@ -11,11 +11,9 @@ use Rattle.lines.specs.Lines.{line_said}
 use Rattle.lines.proofs.Lines.{many-lines, line-here}
 use Rattle.columns.specs.Columns.{entries}
 use Rattle.columns.proofs.Places.{entries-length, entry_at}
-use Rattle.neighbor_table.specs.declared.NeighborEntry.{NeighborEntry}
 use Rattle.neighbor_table.specs.Entry.{blank_neighbor}
 use Rattle.neighbor_columns.specs.Codec.{neighbor_of}
 use Rattle.neighbor_columns.specs.Table as neighbours
-use Rattle.waiting_table.specs.declared.WaitingEntry.{WaitingEntry}
 use Rattle.waiting_table.specs.Entry.{blank_waiting}
 use Rattle.waiting_columns.specs.Codec.{waiting_of, waiting_in}
 use Rattle.waiting_columns.specs.Table as senders

@@ -12,7 +12,6 @@ ghost use Rattle.neighbor_columns.specs.Table.{Formed64, formed64};
 ghost use Rattle.neighbors.specs.State.{table_in, rows, with_rows};
 ghost use Rattle.neighbor_loads.specs.Loads.{loaded, no_call, neighbor_put, put_neighbor, waiting_put, put_waiting, set_neighbor_count, set_neighbor_key, set_waiting_count, set_waiting_key};
 
-use flat_map::Place;
 use neighbor_table::NeighborEntry;
 use neighbors::Neighbors;
 use numbers::Answer;
@@ -62,7 +61,7 @@ fn neighbors_formed(s: Neighbors) -> bool
 }
 
 // The state with a neighbour at the place of its address: over the one that is there, or put in.
-fn with_neighbor(s: Neighbors, place: Place, e: NeighborEntry) -> Neighbors
+fn with_neighbor(s: Neighbors, place: Result<usize, usize>, e: NeighborEntry) -> Neighbors
     requires { Formed64 (table_in s) × (place ≡ place_of (take s.count s.keys) (neighbor_key e)) × (count_with neighbor_key (neighbor_key e) (rows s) ≤ 64) }
     ensures { result ≡ with_rows s (put neighbor_key e (rows s)) }
 {

@@ -50,7 +50,7 @@ fn waiting_line(s: Neighbors, i: usize) -> Answer
 fn from_waiting(s: Neighbors, i: usize) -> Answer
     ensures { result ≡ spoken (line_said (waiting_rows (waiting_in s)) i) }
 {
-    let n = numbers::at_most(s.waiting, 64);
+    let n = s.waiting.min(64);
     if n <= i {
         return numbers::no_call();
     }
@@ -61,7 +61,7 @@ fn from_waiting(s: Neighbors, i: usize) -> Answer
 pub fn line(s: Neighbors, i: usize) -> Answer
     ensures { result ≡ spoken (line_said (neighbor_lines s) i) }
 {
-    let n = numbers::at_most(s.count, 64);
+    let n = s.count.min(64);
     if i < n {
         return neighbor_line(s, i);
     }

@@ -1,7 +1,6 @@
 -- What is read off a neighbour, and lists as answers: a count and an array, blank from the count on.
 -- Assumes nothing.
 use Rattle.std.specs.Prelude.{ℕ, ◌+◌, List, length, set}
-use Rattle.std.proofs.Math.Option.{Option, none, some}
 use Rattle.types.specs.declared.Nwk.{Nwk}
 use Rattle.types.specs.declared.Eui64.{Eui64}
 use Rattle.flat_map.specs.Rows.{pad}
@@ -13,8 +12,6 @@ use Rattle.neighbor_queries.specs.declared.ChildList.{ChildList}
 use Rattle.neighbor_queries.specs.declared.Eui64List.{Eui64List}
 use Rattle.neighbor_queries.specs.declared.NwkList.{NwkList}
 use Rattle.neighbor_queries.specs.declared.LinkStatusList.{LinkStatusList}
-use Rattle.neighbor_queries.specs.declared.Moment.{Moment}
-use Rattle.neighbor_queries.specs.declared.Moment.TheVariants.{At, Never}
 
 abbrev pub name_of : NeighborEntry → Eui64
 name_of e = e.extended_address
@@ -69,12 +66,3 @@ one_more_nwk l x = record { count = l.count + 1; addresses = set l.addresses l.c
 
 abbrev pub one_more_status : LinkStatusList → LinkStatus → LinkStatusList
 one_more_status l x = record { count = l.count + 1; statuses = set l.statuses l.count x }
-
--- a moment that there may be
-abbrev pub moment : Option ℕ → Moment
-moment none = Never
-moment (some t) = At t
-
-abbrev pub time_of : Moment → Option ℕ
-time_of (At t) = some t
-time_of Never = none

@@ -1,11 +1,11 @@
-// Questions to the neighbours and what they are answered: which rows are asked for, lists, and an answer for each kind of call.
+// Questions to the neighbours and what they are answered: which rows are asked for, lists, a link, and what a neighbour can do.
 #![tactic(auto)]
 
 ghost use Rattle.std.specs.Prelude.{◌≡◌, [], ◌<◌};
 ghost use Rattle.neighbor_queries.specs.Lists.{child_list, eui_list, nwk_list, status_list, one_more_child, one_more_eui, one_more_nwk, one_more_status};
 
-use neighbor_table::{NeighborEntry, NwkDeviceType};
-use types::{Eui64, Nwk, Refusal};
+use neighbor_table::NwkDeviceType;
+use types::{Eui64, Nwk};
 
 // Which neighbours are asked for.
 #[derive(Clone, Copy)]
@@ -66,43 +66,6 @@ pub struct LinkStatusList {
     pub statuses: [LinkStatus; 64],
 }
 
-// A moment that there may be.
-#[derive(Drop)]
-pub enum Moment {
-    At(u64),
-    Never,
-}
-
-// A yes or no.
-#[derive(Drop)]
-pub enum Truth {
-    Is(bool),
-    Refused(Refusal),
-}
-
-// A number of neighbours.
-#[derive(Drop)]
-pub enum Count {
-    Is(usize),
-    Refused(Refusal),
-}
-
-// An extended address, if there is one.
-#[derive(Drop)]
-pub enum Eui64Answer {
-    Is(Eui64),
-    Nothing,
-    Refused(Refusal),
-}
-
-// A network address, if there is one.
-#[derive(Drop)]
-pub enum NwkAnswer {
-    Is(Nwk),
-    Nothing,
-    Refused(Refusal),
-}
-
 // The radio link to one neighbour.
 #[derive(Drop)]
 pub struct NeighborLink {
@@ -113,77 +76,11 @@ pub struct NeighborLink {
     pub incoming_cost: u8,
 }
 
-// The link to a neighbour, if it is one.
+// What a neighbour can do.
 #[derive(Drop)]
-pub enum LinkAnswer {
-    Is(NeighborLink),
-    Nothing,
-    Refused(Refusal),
-}
-
-// What a neighbour can do, if it is one.
-#[derive(Drop)]
-pub enum Capability {
-    Is {
-        device_type: NwkDeviceType,
-        rx_on_when_idle: bool,
-    },
-    Nothing,
-    Refused(Refusal),
-}
-
-// A moment, if there is one.
-#[derive(Drop)]
-pub enum MomentAnswer {
-    At(u64),
-    Never,
-    Refused(Refusal),
-}
-
-// Whether a call was done.
-#[derive(Drop)]
-pub enum Answer {
-    Done,
-    Refused(Refusal),
-}
-
-// Whether there is an entry.
-#[derive(Drop)]
-pub enum Presence {
-    Found,
-    Nothing,
-    Refused(Refusal),
-}
-
-// An entry; the blank one where there is none.
-#[derive(Drop)]
-pub struct EntryAnswer {
-    pub answer: Presence,
-    pub entry: NeighborEntry,
-}
-
-#[derive(Drop)]
-pub struct ChildrenAnswer {
-    pub answer: Answer,
-    pub list: ChildList,
-}
-
-#[derive(Drop)]
-pub struct Eui64sAnswer {
-    pub answer: Answer,
-    pub list: Eui64List,
-}
-
-#[derive(Drop)]
-pub struct NwksAnswer {
-    pub answer: Answer,
-    pub list: NwkList,
-}
-
-#[derive(Drop)]
-pub struct StatusesAnswer {
-    pub answer: Answer,
-    pub list: LinkStatusList,
+pub struct Capability {
+    pub device_type: NwkDeviceType,
+    pub rx_on_when_idle: bool,
 }
 
 impl ChildList {

@@ -1,12 +1,12 @@
 -- A walk over the places in use, for any test of the rows: what the first that fits, the count and the collected list are after each turn,
 -- and at the end. The rest of the rows is `drop i`.
+use Rattle.std.specs.Prelude.{Option, Some, None}
 use Prim.Native.Nat.{ℕ, zero, suc, ◌+◌, ◌<◌, ◌≤◌}
 use native.Mathlib.Numerals.{add-one}
 use native.Mathlib.Omega.{arith}
 use mathlib.Core.Bool.{Bool, true, false}
 use mathlib.Core.List.{List, [], map}
 use mathlib.Core.Logic.{◌⊎◌, inl, inr, ⊎_elim}
-use mathlib.Core.Option.{Option, none, some}
 use mathlib.Core.Path.{◌≡◌, refl, sym, ap, ◌∙◌, subst}
 use mir.Val.{bool_byte}
 use borrow.Author.Tests.{lt-ltb, le-ltb}
@@ -19,7 +19,7 @@ use Rattle.types.specs.declared.Nwk.{Nwk}
 use Rattle.flat_map.specs.Rows.{pad}
 use Rattle.flat_map.proofs.Compare.{below_or_not}
 use Rattle.flat_map.proofs.Ordered.{none-some}
-use Rattle.flat_map.proofs.Filter.{some_first, some-none, Collects, collect-start, collect-take, collect-skip, collect-out, collect-count, lesser-assoc, lesser-none}
+use Rattle.flat_map.proofs.Filter.{some_first, some-none, Collects, collect-start, collect-take, collect-skip, collect-out, collect-count, lesser-assoc}
 use Rattle.flat_map.proofs.Query.{first-here, first_past, first_done, count-here, count_past, count-done, keep-here, keep-past}
 use Rattle.neighbor_table.specs.declared.NeighborEntry.{NeighborEntry}
 use Rattle.columns.specs.Columns.{FirstAt}
@@ -28,12 +28,10 @@ use Rattle.neighbor_columns.specs.Codec.{neighbor_from}
 use Rattle.neighbor_columns.specs.Table.{NeighborTable, rows_of, row_at, Formed64}
 use Rattle.neighbor_columns.proofs.Rows.{next-read, none_left, many, row-in-use, row-not-in-use}
 use Rattle.neighbor_queries.specs.Filter.{fits, has_address}
-use Rattle.neighbor_queries.specs.Lists.{deadline_of, moment, time_of}
-use Rattle.neighbor_queries.specs.declared.Moment.{Moment}
-use Rattle.neighbor_queries.specs.declared.Moment.TheVariants.{At, Never}
+use Rattle.neighbor_queries.specs.Lists.{deadline_of}
 use Rattle.neighbor_queries.specs.declared.Filter.{Filter}
 use Rattle.neighbor_queries.specs.declared.Filter.TheVariants.{Address, EndDeviceChild, EndDeviceChildAt, SleepyChild, SleepyChildAt, LiveRouter, LiveLinkAt, SampledRouter, TimedOut}
-use Rattle.neighbor_queries_lent.specs.Read.{InRow, InTime}
+use Rattle.neighbor_queries_lent.specs.Read.{InRow, InTime, Gathered}
 
 -- what holds of every row with the numbers in a place holds of the row there
 pub in_row : (t : NeighborTable) (i : ℕ) (P : NeighborEntry → Type 0) → InRow (get_or t.nwks i 0) (get_or t.links i 0) P → P (row_at t i)
@@ -71,10 +69,10 @@ module _ (t : NeighborTable) (f : Formed64 t) (fit : NeighborEntry → Bool) whe
   first_ended i r h l s = row-not-in-use t f r l ∙ sym (first_done fit (none_left t f i h)) ∙ s
 
   -- what stands in such a place
-  pub first_some : (r : ℕ) → r < t.count → entry_at r (rows_of t) ≡ first fit (rows_of t) → first fit (rows_of t) ≡ some (row_at t r)
+  pub first_some : (r : ℕ) → r < t.count → entry_at r (rows_of t) ≡ first fit (rows_of t) → first fit (rows_of t) ≡ Some (row_at t r)
   first_some r h e = sym e ∙ row-in-use t f r h
 
-  pub first-no : (r : ℕ) → t.count ≤ r → entry_at r (rows_of t) ≡ first fit (rows_of t) → first fit (rows_of t) ≡ none
+  pub first-no : (r : ℕ) → t.count ≤ r → entry_at r (rows_of t) ≡ first fit (rows_of t) → first fit (rows_of t) ≡ None
   first-no r h e = sym e ∙ row-not-in-use t f r h
 
   -- whether it is before the count says whether there is one
@@ -94,39 +92,30 @@ module _ (t : NeighborTable) (f : Formed64 t) (fit : NeighborEntry → Bool) whe
   counted-all i n h s = omega (arith, s, count-done fit (none_left t f i h))
 
 -- the earliest deadline of the rows that fit
-time-back : (m : Moment) → moment (time_of m) ≡ m
-time-back (At at) = refl
-time-back Never = refl
-
-back-time : (o : Option ℕ) → time_of (moment o) ≡ o
-back-time none = refl
-back-time (some at) = refl
+back-time : (o : Option ℕ) → (o) ≡ o
+back-time None = refl
+back-time (Some at) = refl
 
 module _ (t : NeighborTable) (f : Formed64 t) (fit : NeighborEntry → Bool) where
   -- m is the earliest of the rows passed
-  abbrev pub Earliest : ℕ → Moment → Type 0
-  Earliest i m = lesser (time_of m) (least (map deadline_of (keep fit (drop i (rows_of t))))) ≡ least (map deadline_of (keep fit (rows_of t)))
+  abbrev pub Earliest : ℕ → Option ℕ → Type 0
+  Earliest i m = lesser (m) (least (map deadline_of (keep fit (drop i (rows_of t))))) ≡ least (map deadline_of (keep fit (rows_of t)))
 
-  module _ (i : ℕ) (h : i < t.count) (m next : Moment) (s : Earliest i m) where
-    pub earliest-taken : fit (row_at t i) ≡ true → next ≡ moment (lesser (time_of m) (some (deadline_of (row_at t i)))) → Earliest (i + 1) next
+  module _ (i : ℕ) (h : i < t.count) (m next : Option ℕ) (s : Earliest i m) where
+    pub earliest-taken : fit (row_at t i) ≡ true → next ≡ (lesser (m) (Some (deadline_of (row_at t i)))) → Earliest (i + 1) next
     earliest-taken q e =
         let rest = least (map deadline_of (keep fit (drop (i + 1) (rows_of t)))) in
-        ap (λ (x : Moment). lesser (time_of x) rest) e
-        ∙ ap (λ (o : Option ℕ). lesser o rest) (back-time (lesser (time_of m) (some (deadline_of (row_at t i)))))
-        ∙ lesser-assoc (time_of m) (some (deadline_of (row_at t i))) rest
-        ∙ ap (λ (l : List NeighborEntry). lesser (time_of m) (least (map deadline_of l))) (sym (keep-here fit (next-read t f i h) q))
+        ap (λ (x : Option ℕ). lesser (x) rest) e
+        ∙ ap (λ (o : Option ℕ). lesser o rest) (back-time (lesser (m) (Some (deadline_of (row_at t i)))))
+        ∙ lesser-assoc (m) (Some (deadline_of (row_at t i))) rest
+        ∙ ap (λ (l : List NeighborEntry). lesser (m) (least (map deadline_of l))) (sym (keep-here fit (next-read t f i h) q))
         ∙ s
 
     pub earliest-passed : fit (row_at t i) ≡ false → next ≡ m → Earliest (i + 1) next
     earliest-passed q e =
-        ap (λ (x : Moment). lesser (time_of x) (least (map deadline_of (keep fit (drop (i + 1) (rows_of t)))))) e
-        ∙ ap (λ (l : List NeighborEntry). lesser (time_of m) (least (map deadline_of l))) (sym (keep-past fit (next-read t f i h) q))
+        ap (λ (x : Option ℕ). lesser (x) (least (map deadline_of (keep fit (drop (i + 1) (rows_of t)))))) e
+        ∙ ap (λ (l : List NeighborEntry). lesser (m) (least (map deadline_of l))) (sym (keep-past fit (next-read t f i h) q))
         ∙ s
-
-  pub earliest-all : (i : ℕ) (m : Moment) → t.count ≤ i → Earliest i m → m ≡ moment (least (map deadline_of (keep fit (rows_of t))))
-  earliest-all i m h s =
-      sym (time-back m)
-      ∙ ap moment (sym (lesser-none (time_of m)) ∙ sym (ap (λ (l : List NeighborEntry). lesser (time_of m) (least (map deadline_of (keep fit l)))) (none_left t f i h)) ∙ s)
 
 -- what g reads off the rows that fit, collected in an array of 64 places
 module _ {A : Type 0} (blank : A) (g : NeighborEntry → A) (fit : NeighborEntry → Bool) (t : NeighborTable) (f : Formed64 t) where
@@ -156,18 +145,18 @@ module _ {A : Type 0} (blank : A) (g : NeighborEntry → A) (fit : NeighborEntry
 
 -- the address that a filter names
 abbrev pub named : Filter → Option Nwk
-named (Address nwk) = some nwk
-named EndDeviceChild = none
-named (EndDeviceChildAt nwk) = some nwk
-named SleepyChild = none
-named (SleepyChildAt nwk) = some nwk
-named LiveRouter = none
-named (LiveLinkAt nwk) = some nwk
-named SampledRouter = none
-named (TimedOut now) = none
+named (Address nwk) = Some nwk
+named EndDeviceChild = None
+named (EndDeviceChildAt nwk) = Some nwk
+named SleepyChild = None
+named (SleepyChildAt nwk) = Some nwk
+named LiveRouter = None
+named (LiveLinkAt nwk) = Some nwk
+named SampledRouter = None
+named (TimedOut now) = None
 
 -- a row with another address does not fit
-elsewhere : (filter : Filter) (nwk : Nwk) (e : NeighborEntry) → named filter ≡ some nwk → has_address nwk e ≡ false → fits filter e ≡ false
+elsewhere : (filter : Filter) (nwk : Nwk) (e : NeighborEntry) → named filter ≡ Some nwk → has_address nwk e ≡ false → fits filter e ≡ false
 unfolding fits
 elsewhere (Address n) nwk e p q = let s : n ≡ nwk = cc in rw (s, q)
 elsewhere EndDeviceChild nwk e p q = absurd (none-some nwk p)
@@ -181,7 +170,7 @@ elsewhere (TimedOut now) nwk e p q = absurd (none-some nwk p)
 
 module _ (t : NeighborTable) (f : Formed64 t) (nwk : Nwk) (r : ℕ) (q : FirstAt t.nwks t.count nwk.0 r) where
   -- no row before the first with the address fits
-  pub start-ahead : (filter : Filter) → named filter ≡ some nwk → Ahead t f (fits filter) r
+  pub start-ahead : (filter : Filter) → named filter ≡ Some nwk → Ahead t f (fits filter) r
   unfolding neighbor_from
   start-ahead filter p =
       ahead_of t f (fits filter) r q.within
@@ -193,3 +182,27 @@ module _ (t : NeighborTable) (f : Formed64 t) (nwk : Nwk) (r : ℕ) (q : FirstAt
   address-first =
       ⊎_elim (λ h. first_found t f (fits (Address nwk)) r h (first-there t.nwks t.count nwk.0 r q h) (start-ahead (Address nwk) refl))
       (λ h. first_ended t f (fits (Address nwk)) r r h h (start-ahead (Address nwk) refl)) (below_or_not r t.count)
+
+-- what is written after the first i places, of any table: what `Gathered` says, with what the rows to come still give
+module _ {A : Type 0} (tests : ℕ → Bool → Type 0) (reads : ℕ → A → Type 0) (count : ℕ) (old : List A) where
+  abbrev pub Gathering : ℕ → List A → ℕ → Type 0
+  Gathering i out n =
+      (t : NeighborTable) (fit : NeighborEntry → Bool) (g : NeighborEntry → A) (blank : A) (f : Formed64 t) → t.count ≡ count → old ≡ pad 64 blank []
+      → ((j : ℕ) (b : Bool) → j < count → tests j b → b ≡ fit (row_at t j)) → ((j : ℕ) (x : A) → j < count → reads j x → x ≡ g (row_at t j))
+      → Collected blank g fit t f i out n
+
+  pub gathering-none : Gathering 0 old 0
+  gathering-none t fit g blank f z e p q = collected-none blank g fit t f old e
+
+  module _ (i : ℕ) (h : i < count) (out : List A) (n : ℕ) (s : Gathering i out n) (b : Bool) (said : tests i b) where
+    pub gathering-taken : b ≡ true → (x : A) → reads i x → (more : List A) (m : ℕ) → more ≡ set out n x → m ≡ n + 1 → Gathering (i + 1) more m
+    gathering-taken k x r more m o l t fit g blank f z e p q =
+        collected-taken blank g fit t f i (omega arith) out n (s t fit g blank f z e p q) more m (sym (p i b h said) ∙ k) (o ∙ ap (λ (y : A). set out n y) (q i x h r)) l
+
+    pub gathering-passed : b ≡ false → (more : List A) (m : ℕ) → more ≡ out → m ≡ n → Gathering (i + 1) more m
+    gathering-passed k more m o l t fit g blank f z e p q = collected-passed blank g fit t f i (omega arith) out n (s t fit g blank f z e p q) more m (sym (p i b h said) ∙ k) o l
+
+  pub gathering-all : (i : ℕ) (out : List A) (n : ℕ) → count ≤ i → Gathering i out n → Gathered tests reads count old out n
+  gathering-all i out n h s t fit g blank f z e p q =
+      let all = s t fit g blank f z e p q in
+      (collected-count blank g fit t f i (omega arith) out n all, collected-out blank g fit t f i (omega arith) out n all)

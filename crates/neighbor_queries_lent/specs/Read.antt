@@ -1,11 +1,13 @@
 -- What is read of a neighbour from some of its numbers, whatever the others are, and the columns that a question is lent.
 -- Assumes nothing.
-use Rattle.std.specs.Prelude.{ℕ, ◌≤◌, List}
+use Rattle.std.specs.Prelude.{ℕ, ◌≤◌, ◌<◌, ◌≡◌, Bool, List, [], length, map}
+use Rattle.standard.specs.Ordered.{keep}
+use Rattle.flat_map.specs.Rows.{pad}
 use Rattle.columns.specs.Columns.{Long}
 use Rattle.neighbor_table.specs.declared.NeighborEntry.{NeighborEntry}
 use Rattle.neighbor_columns.specs.Codec.{neighbor_in}
 use Rattle.neighbor_columns.specs.Lent.{with_nwks, with_links, with_deadlines, with_count, seen}
-use Rattle.neighbor_columns.specs.Table.{NeighborTable}
+use Rattle.neighbor_columns.specs.Table.{NeighborTable, Formed64, rows_of, row_at}
 use Rattle.neighbor_queries.specs.declared.Filter.{Filter}
 use Rattle.neighbor_queries.specs.declared.Filter.TheVariants.{Address, EndDeviceChild, EndDeviceChildAt, SleepyChild, SleepyChildAt, LiveRouter, LiveLinkAt, SampledRouter, TimedOut}
 
@@ -50,3 +52,11 @@ lent_times links deadlines n t = with_deadlines deadlines (with_links links (wit
 
 abbrev pub lent_expiry : List ℕ → List ℕ → List ℕ → List ℕ → ℕ → NeighborTable → NeighborTable
 lent_expiry keys nwks links deadlines n t = with_deadlines deadlines (seen keys nwks links n t)
+
+-- Of any table with so many rows, and whatever is asked and read of a row: where the tests tell whether each row fits and the readings are
+-- what is read off it, n is how many rows fit, and an array that was blank has what is read off them, in their order.
+abbrev pub Gathered : {A : Type 0} → (ℕ → Bool → Type 0) → (ℕ → A → Type 0) → ℕ → List A → List A → ℕ → Type 0
+Gathered {A} tests reads count old new n =
+    (t : NeighborTable) (fit : NeighborEntry → Bool) (g : NeighborEntry → A) (blank : A) → Formed64 t → t.count ≡ count → old ≡ pad 64 blank []
+    → ((i : ℕ) (b : Bool) → i < count → tests i b → b ≡ fit (row_at t i)) → ((i : ℕ) (x : A) → i < count → reads i x → x ≡ g (row_at t i))
+    → (n ≡ length (map g (keep fit (rows_of t)))) × (new ≡ pad 64 blank (map g (keep fit (rows_of t))))

@@ -2,8 +2,7 @@
 // order. A question reads network addresses and link words, and further columns only where its answer says more.
 #![tactic(auto)]
 
-ghost use Rattle.std.specs.Prelude.{not, ◌&&◌, [], ◌∷◌, map, ◌≡◌, ◌≤◌, drop};
-ghost use Rattle.std.proofs.Math.Option.{some};
+ghost use Rattle.std.specs.Prelude.{not, ◌&&◌, [], ◌∷◌, map, ◌≡◌, ◌≤◌, ◌<◌, ℕ, drop, length};
 ghost use Rattle.standard.specs.Ordered.{keep};
 ghost use Rattle.standard.specs.Query.{first, some_fits, count_fits, entry_at};
 ghost use Rattle.standard.specs.Rows.{lesser, least};
@@ -11,13 +10,11 @@ ghost use Rattle.neighbor_table.specs.Entry.{is_router, is_end_device, is_child_
 ghost use Rattle.neighbor_columns.specs.Codec.{link_of};
 ghost use Rattle.neighbor_columns.specs.Lent.{Asked, seen};
 ghost use Rattle.neighbor_queries.specs.Filter.{fits};
-ghost use Rattle.neighbor_queries.specs.Lists.{child_of, status_of, deadline_of, address_of, name_of, child_list, eui_list, nwk_list, status_list, moment, time_of};
+ghost use Rattle.neighbor_queries.specs.Lists.{child_of, status_of, deadline_of, address_of, name_of, child_list, eui_list, nwk_list, status_list};
 ghost use Rattle.neighbor_queries.specs.declared.Filter.TheVariants.{Address, TimedOut};
-ghost use Rattle.neighbor_queries_lent.specs.Read.{InRow, InTime, Untimed, InUse, lent_nwks, lent_words, lent_deadlines, lent_times, lent_expiry};
+ghost use Rattle.neighbor_queries_lent.specs.Read.{InRow, InTime, Untimed, InUse, lent_nwks, lent_words, lent_deadlines, lent_times, lent_expiry, Gathered};
 
-use neighbor_queries::{
-    Child, ChildList, Eui64List, Filter, LinkStatus, LinkStatusList, Moment, NwkList,
-};
+use neighbor_queries::{Child, ChildList, Eui64List, Filter, LinkStatus, LinkStatusList, NwkList};
 use ring_buffer::RingBuffer;
 use types::{Eui64, Nwk};
 
@@ -109,12 +106,10 @@ pub fn first_fitting(nwks: &[u16], links: &[u64], count: usize, filter: Filter) 
     requires { Untimed filter × InUse count (nwks.now ∷ links.now ∷ []) }
     ensures { (result ≤ count) × Asked (lent_words nwks.now links.now count) (λ xs. entry_at result xs ≡ first (fits filter) xs) }
 {
-    let mut i = start_of(nwks, count, filter);
-    while i < count {
+    for i in start_of(nwks, count, filter)..count {
         if fits_word(filter, nwks[i], links[i]) {
             return i;
         }
-        i += 1;
     }
     count
 }
@@ -141,12 +136,32 @@ pub fn count_fitting(nwks: &[u16], links: &[u64], count: usize, filter: Filter) 
     ensures { Asked (lent_words nwks.now links.now count) (λ xs. result ≡ count_fits (fits filter) xs) }
 {
     let mut fitting: usize = 0;
-    let mut i: usize = 0;
-    while i < count {
+    for i in 0..count {
         fitting += fits_word(filter, nwks[i], links[i]) as usize;
-        i += 1;
     }
     fitting
+}
+
+// Writes what `read` makes of each of the first `count` places that `fits` to the front of `out`, in their order. How many there are.
+fn gather<T: Copy, F: Fn(usize) -> bool, G: Fn(usize) -> T>(
+    count: usize,
+    out: &mut [T],
+    fits: F,
+    read: G,
+) -> usize
+    requires room { count ≤ length out.old }
+    requires tests { (i : ℕ) → i < count → F.pre fits i }
+    requires reads { (i : ℕ) → i < count → G.pre read i }
+    ensures { Gathered (F.post fits) (G.post read) count out.old out.new result }
+{
+    let mut n: usize = 0;
+    for i in 0..count {
+        if fits(i) {
+            out[n] = read(i);
+            n += 1;
+        }
+    }
+    n
 }
 
 // The neighbours that fit, by both their addresses.
@@ -165,19 +180,16 @@ pub fn children_fitting(
         network_address: Nwk(0),
     };
     let mut children = [blank; 64];
-    let mut n: usize = 0;
-    let mut i: usize = 0;
-    while i < count {
-        if fits_word(filter, nwks[i], links[i]) {
-            children[n] = Child {
-                eui64: Eui64(keys[i]),
-                network_address: Nwk(nwks[i]),
-            };
-            n += 1;
-        }
-        i += 1;
-    }
-    ChildList { count: n, children }
+    let count = gather(
+        count,
+        &mut children,
+        |i| fits_word(filter, nwks[i], links[i]),
+        |i| Child {
+            eui64: Eui64(keys[i]),
+            network_address: Nwk(nwks[i]),
+        },
+    );
+    ChildList { count, children }
 }
 
 // The extended addresses of the neighbours that fit.
@@ -193,19 +205,13 @@ pub fn names_fitting(
 {
     let blank = Eui64(0);
     let mut addresses = [blank; 64];
-    let mut n: usize = 0;
-    let mut i: usize = 0;
-    while i < count {
-        if fits_word(filter, nwks[i], links[i]) {
-            addresses[n] = Eui64(keys[i]);
-            n += 1;
-        }
-        i += 1;
-    }
-    Eui64List {
-        count: n,
-        addresses,
-    }
+    let count = gather(
+        count,
+        &mut addresses,
+        |i| fits_word(filter, nwks[i], links[i]),
+        |i| Eui64(keys[i]),
+    );
+    Eui64List { count, addresses }
 }
 
 // The network addresses of the neighbours that fit.
@@ -215,19 +221,13 @@ pub fn addresses_fitting(nwks: &[u16], links: &[u64], count: usize, filter: Filt
 {
     let blank = Nwk(0);
     let mut addresses = [blank; 64];
-    let mut n: usize = 0;
-    let mut i: usize = 0;
-    while i < count {
-        if fits_word(filter, nwks[i], links[i]) {
-            addresses[n] = Nwk(nwks[i]);
-            n += 1;
-        }
-        i += 1;
-    }
-    NwkList {
-        count: n,
-        addresses,
-    }
+    let count = gather(
+        count,
+        &mut addresses,
+        |i| fits_word(filter, nwks[i], links[i]),
+        |i| Nwk(nwks[i]),
+    );
+    NwkList { count, addresses }
 }
 
 // The cost of the link as this device measures it, from the samples in a link word.
@@ -264,31 +264,22 @@ pub fn statuses_fitting(nwks: &[u16], links: &[u64], count: usize, filter: Filte
         outgoing_cost: 0,
     };
     let mut statuses = [blank; 64];
-    let mut n: usize = 0;
-    let mut i: usize = 0;
-    while i < count {
-        if fits_word(filter, nwks[i], links[i]) {
-            statuses[n] = status_of(nwks[i], links[i]);
-            n += 1;
-        }
-        i += 1;
-    }
-    LinkStatusList { count: n, statuses }
+    let count = gather(
+        count,
+        &mut statuses,
+        |i| fits_word(filter, nwks[i], links[i]),
+        |i| status_of(nwks[i], links[i]),
+    );
+    LinkStatusList { count, statuses }
 }
 
 // The earlier of a moment that there may be and one that there is.
-fn earlier(m: Moment, at: u64) -> Moment
-    ensures { result ≡ moment (lesser (time_of m) (some at)) }
+fn earlier(m: Option<u64>, at: u64) -> Option<u64>
+    ensures { result ≡ lesser (m) (Some at) }
 {
     match m {
-        Moment::Never => Moment::At(at),
-        Moment::At(first) => {
-            if first <= at {
-                Moment::At(first)
-            } else {
-                Moment::At(at)
-            }
-        }
+        None => Some(at),
+        Some(first) => { if first <= at { Some(first) } else { Some(at) } }
     }
 }
 
@@ -299,17 +290,15 @@ pub fn earliest_fitting(
     deadlines: &[u64],
     count: usize,
     filter: Filter,
-) -> Moment
+) -> Option<u64>
     requires { Untimed filter × InUse count (nwks.now ∷ links.now ∷ deadlines.now ∷ []) }
-    ensures { Asked (lent_deadlines nwks.now links.now deadlines.now count) (λ xs. result ≡ moment (least (map deadline_of (keep (fits filter) xs)))) }
+    ensures { Asked (lent_deadlines nwks.now links.now deadlines.now count) (λ xs. result ≡ (least (map deadline_of (keep (fits filter) xs)))) }
 {
-    let mut first = Moment::Never;
-    let mut i: usize = 0;
-    while i < count {
+    let mut first = None;
+    for i in 0..count {
         if fits_word(filter, nwks[i], links[i]) {
             first = earlier(first, deadlines[i]);
         }
-        i += 1;
     }
     first
 }
@@ -326,12 +315,10 @@ pub fn first_timed_out(links: &[u64], deadlines: &[u64], count: usize, at: u64) 
     requires { InUse count (links.now ∷ deadlines.now ∷ []) }
     ensures { (result ≤ count) × Asked (lent_times links.now deadlines.now count) (λ xs. entry_at result xs ≡ first (fits (TimedOut at)) xs) }
 {
-    let mut i: usize = 0;
-    while i < count {
+    for i in 0..count {
         if is_timed_out(links[i], deadlines[i], at) {
             return i;
         }
-        i += 1;
     }
     count
 }
@@ -353,17 +340,14 @@ pub fn timed_out_children(
         network_address: Nwk(0),
     };
     let mut children = [blank; 64];
-    let mut n: usize = 0;
-    let mut i: usize = 0;
-    while i < count {
-        if is_timed_out(links[i], deadlines[i], at) {
-            children[n] = Child {
-                eui64: Eui64(keys[i]),
-                network_address: Nwk(nwks[i]),
-            };
-            n += 1;
-        }
-        i += 1;
-    }
-    ChildList { count: n, children }
+    let count = gather(
+        count,
+        &mut children,
+        |i| is_timed_out(links[i], deadlines[i], at),
+        |i| Child {
+            eui64: Eui64(keys[i]),
+            network_address: Nwk(nwks[i]),
+        },
+    );
+    ChildList { count, children }
 }

@@ -3,40 +3,43 @@
 
 ghost use Rattle.std.specs.Prelude.{[], ◌∷◌, map, ◌≡◌};
 ghost use Rattle.standard.specs.Ordered.{lookup, keep};
-ghost use Rattle.standard.specs.Query.{first, some_fits, count_fits};
+ghost use Rattle.standard.specs.Query.{first, some_fits, count_fits, is_there};
 ghost use Rattle.standard.specs.Rows.{least};
 ghost use Rattle.columns.specs.Columns.{Ordered};
 ghost use Rattle.neighbor_table.specs.Entry.{neighbor_key};
-ghost use Rattle.neighbor_table.specs.Lookup.{looked};
 ghost use Rattle.neighbor_columns.specs.Lent.{Asked, lent_keys, lent_links, seen};
 ghost use Rattle.neighbor_queries.specs.Filter.{fits};
-ghost use Rattle.neighbor_queries.specs.Lists.{child_of, status_of, deadline_of, address_of, name_of, child_list, eui_list, nwk_list, status_list, moment};
+ghost use Rattle.neighbor_queries.specs.Lists.{child_of, status_of, deadline_of, address_of, name_of, child_list, eui_list, nwk_list, status_list};
 ghost use Rattle.neighbor_queries.specs.declared.Filter.TheVariants.{Address, EndDeviceChild, EndDeviceChildAt, SleepyChild, SleepyChildAt, LiveRouter, SampledRouter};
 ghost use Rattle.neighbor_queries_lent.specs.Read.{Untimed, InUse, lent_words, lent_deadlines};
 ghost use Rattle.neighbor_queries.specs.Answers.{link_in, name_in, capability_in, is_unconfirmed};
 
-use flat_map::Place;
 use neighbor_queries::{
-    Capability, ChildList, Eui64Answer, Eui64List, Filter, LinkAnswer, LinkStatusList, Moment,
-    NeighborLink, NwkList,
+    Capability, ChildList, Eui64List, Filter, LinkStatusList, NeighborLink, NwkList,
 };
-use types::{Eui64, Nwk};
+use types::{Eui64, Nwk, Refusal};
 
 // The radio link to the neighbour with a network address.
-pub fn link(keys: &[u64], nwks: &[u16], links: &[u64], count: usize, nwk: Nwk) -> LinkAnswer
+pub fn link(
+    keys: &[u64],
+    nwks: &[u16],
+    links: &[u64],
+    count: usize,
+    nwk: Nwk,
+) -> Result<Option<NeighborLink>, Refusal>
     requires { InUse count (keys.now ∷ nwks.now ∷ links.now ∷ []) }
-    ensures { Asked (seen keys.now nwks.now links.now count) (λ xs. result ≡ link_in (looked (first (fits (Address nwk)) xs))) }
+    ensures { Asked (seen keys.now nwks.now links.now count) (λ xs. result ≡ link_in (first (fits (Address nwk)) xs)) }
 {
     let i = columns::first16(nwks, count, nwk.0);
     if count <= i {
-        return LinkAnswer::Nothing;
+        return Ok(None);
     }
     let word = links[i];
-    LinkAnswer::Is(NeighborLink {
+    Ok(Some(NeighborLink {
         eui64: Eui64(keys[i]),
         outgoing_cost: neighbor_queries_lent::outgoing_cost(word),
         incoming_cost: neighbor_queries_lent::incoming_cost(word),
-    })
+    }))
 }
 
 // The extended address of the first neighbour that fits.
@@ -46,15 +49,15 @@ pub fn name_fitting(
     links: &[u64],
     count: usize,
     filter: Filter,
-) -> Eui64Answer
+) -> Result<Option<Eui64>, Refusal>
     requires { Untimed filter × InUse count (keys.now ∷ nwks.now ∷ links.now ∷ []) }
-    ensures { Asked (seen keys.now nwks.now links.now count) (λ xs. result ≡ name_in (looked (first (fits filter) xs))) }
+    ensures { Asked (seen keys.now nwks.now links.now count) (λ xs. result ≡ name_in (first (fits filter) xs)) }
 {
     let i = neighbor_queries_lent::first_fitting(nwks, links, count, filter);
     if count <= i {
-        return Eui64Answer::Nothing;
+        return Ok(None);
     }
-    Eui64Answer::Is(Eui64(keys[i]))
+    Ok(Some(Eui64(keys[i])))
 }
 
 // The extended address of the end device child with a network address.
@@ -64,9 +67,9 @@ pub fn end_device_child_eui64(
     links: &[u64],
     count: usize,
     nwk: Nwk,
-) -> Eui64Answer
+) -> Result<Option<Eui64>, Refusal>
     requires { InUse count (keys.now ∷ nwks.now ∷ links.now ∷ []) }
-    ensures { Asked (seen keys.now nwks.now links.now count) (λ xs. result ≡ name_in (looked (first (fits (EndDeviceChildAt nwk)) xs))) }
+    ensures { Asked (seen keys.now nwks.now links.now count) (λ xs. result ≡ name_in (first (fits (EndDeviceChildAt nwk)) xs)) }
 {
     name_fitting(keys, nwks, links, count, Filter::EndDeviceChildAt(nwk))
 }
@@ -78,9 +81,9 @@ pub fn sleepy_child_eui64(
     links: &[u64],
     count: usize,
     nwk: Nwk,
-) -> Eui64Answer
+) -> Result<Option<Eui64>, Refusal>
     requires { InUse count (keys.now ∷ nwks.now ∷ links.now ∷ []) }
-    ensures { Asked (seen keys.now nwks.now links.now count) (λ xs. result ≡ name_in (looked (first (fits (SleepyChildAt nwk)) xs))) }
+    ensures { Asked (seen keys.now nwks.now links.now count) (λ xs. result ≡ name_in (first (fits (SleepyChildAt nwk)) xs)) }
 {
     name_fitting(keys, nwks, links, count, Filter::SleepyChildAt(nwk))
 }
@@ -96,31 +99,36 @@ pub fn is_end_device_child(nwks: &[u16], links: &[u64], count: usize, nwk: Nwk) 
 // Whether an extended address is a neighbour's.
 pub fn contains(keys: &[u64], count: usize, eui64: Eui64) -> bool
     requires { Ordered 64 keys.now [] count }
-    ensures { Asked (lent_keys keys.now count) (λ xs. result ≡ (looked (lookup neighbor_key eui64.0 xs)).found) }
+    ensures { Asked (lent_keys keys.now count) (λ xs. result ≡ is_there (lookup neighbor_key eui64.0 xs)) }
 {
     let place = neighbor_columns::place_of(keys, count, eui64);
     match place {
-        Place::Found(_) => true,
-        Place::Missing(_) => false,
+        Ok(_) => true,
+        Err(_) => false,
     }
 }
 
 // The device type of a neighbour, and whether it listens when idle.
-pub fn device_capability(keys: &[u64], links: &[u64], count: usize, eui64: Eui64) -> Capability
+pub fn device_capability(
+    keys: &[u64],
+    links: &[u64],
+    count: usize,
+    eui64: Eui64,
+) -> Result<Option<Capability>, Refusal>
     requires { Ordered 64 keys.now (links.now ∷ []) count }
-    ensures { Asked (lent_links keys.now links.now count) (λ xs. result ≡ capability_in (looked (lookup neighbor_key eui64.0 xs))) }
+    ensures { Asked (lent_links keys.now links.now count) (λ xs. result ≡ capability_in (lookup neighbor_key eui64.0 xs)) }
 {
     let place = neighbor_columns::place_of(keys, count, eui64);
     match place {
-        Place::Found(i) => {
+        Ok(i) => {
             let part = neighbor_columns::link_of(links[i]);
             let device_type = part.device_type;
-            Capability::Is {
+            Ok(Some(Capability {
                 device_type,
                 rx_on_when_idle: part.rx_on_when_idle,
-            }
+            }))
         }
-        Place::Missing(_) => Capability::Nothing,
+        Err(_) => Ok(None),
     }
 }
 
@@ -132,16 +140,16 @@ pub fn is_unconfirmed_end_device_child(
     eui64: Eui64,
 ) -> bool
     requires { Ordered 64 keys.now (links.now ∷ []) count }
-    ensures { Asked (lent_links keys.now links.now count) (λ xs. result ≡ is_unconfirmed (looked (lookup neighbor_key eui64.0 xs))) }
+    ensures { Asked (lent_links keys.now links.now count) (λ xs. result ≡ is_unconfirmed (lookup neighbor_key eui64.0 xs)) }
 {
     let place = neighbor_columns::place_of(keys, count, eui64);
     match place {
-        Place::Found(i) => {
+        Ok(i) => {
             let part = neighbor_columns::link_of(links[i]);
             let child = neighbor_queries_lent::fits_word(Filter::EndDeviceChild, 0, links[i]);
             !part.keepalive_received & child
         }
-        Place::Missing(_) => false,
+        Err(_) => false,
     }
 }
 
@@ -194,9 +202,14 @@ pub fn link_status_entries(nwks: &[u16], links: &[u64], count: usize) -> LinkSta
 }
 
 // The earliest deadline of an end device child.
-pub fn next_child_timeout(nwks: &[u16], links: &[u64], deadlines: &[u64], count: usize) -> Moment
+pub fn next_child_timeout(
+    nwks: &[u16],
+    links: &[u64],
+    deadlines: &[u64],
+    count: usize,
+) -> Option<u64>
     requires { InUse count (nwks.now ∷ links.now ∷ deadlines.now ∷ []) }
-    ensures { Asked (lent_deadlines nwks.now links.now deadlines.now count) (λ xs. result ≡ moment (least (map deadline_of (keep (fits EndDeviceChild) xs)))) }
+    ensures { Asked (lent_deadlines nwks.now links.now deadlines.now count) (λ xs. result ≡ (least (map deadline_of (keep (fits EndDeviceChild) xs)))) }
 {
     neighbor_queries_lent::earliest_fitting(nwks, links, deadlines, count, Filter::EndDeviceChild)
 }

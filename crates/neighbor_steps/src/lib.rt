@@ -3,12 +3,10 @@
 
 ghost use Rattle.std.specs.Prelude.{◌≡◌, ◌+◌, ◌≤◌, ◌<◌, take};
 ghost use Rattle.standard.specs.Ordered.{put, remove, count_with};
-ghost use Rattle.flat_map.specs.declared.Place.TheVariants.{Found, Missing};
 ghost use Rattle.flat_map.specs.Seek.{place_of};
 ghost use Rattle.neighbor_table.specs.Entry.{neighbor_key};
 ghost use Rattle.neighbor_columns.specs.Table.{in_columns, rows_of, InPlaces, Formed64, removed, Keeps};
 
-use flat_map::Place;
 use neighbor_table::NeighborEntry;
 use types::Eui64;
 
@@ -28,7 +26,7 @@ pub fn set_at(
     i: usize,
     e: NeighborEntry,
 )
-    requires { Formed64 (in_columns keys.now nwks.old links.old counts.old deadlines.old periods.old heard.old added.old beacons.old bytes.old count) × (Found i ≡ place_of (take count keys.now) (neighbor_key e)) }
+    requires { Formed64 (in_columns keys.now nwks.old links.old counts.old deadlines.old periods.old heard.old added.old beacons.old bytes.old count) × (Ok i ≡ place_of (take count keys.now) (neighbor_key e)) }
     ensures { Keeps (in_columns keys.now nwks.new links.new counts.new deadlines.new periods.new heard.new added.new beacons.new bytes.new count) (put neighbor_key e (rows_of (in_columns keys.now nwks.old links.old counts.old deadlines.old periods.old heard.old added.old beacons.old bytes.old count))) }
 {
     let w = neighbor_columns::words_of(e);
@@ -59,20 +57,20 @@ pub fn insert_at(
     i: usize,
     e: NeighborEntry,
 ) -> usize
-    requires { Formed64 (in_columns keys.old nwks.old links.old counts.old deadlines.old periods.old heard.old added.old beacons.old bytes.old count) × (Missing i ≡ place_of (take count keys.old) (neighbor_key e)) × (count < 64) }
+    requires { Formed64 (in_columns keys.old nwks.old links.old counts.old deadlines.old periods.old heard.old added.old beacons.old bytes.old count) × (Err i ≡ place_of (take count keys.old) (neighbor_key e)) × (count < 64) }
     ensures { Keeps (in_columns keys.new nwks.new links.new counts.new deadlines.new periods.new heard.new added.new beacons.new bytes.new result) (put neighbor_key e (rows_of (in_columns keys.old nwks.old links.old counts.old deadlines.old periods.old heard.old added.old beacons.old bytes.old count))) }
 {
     let w = neighbor_columns::words_of(e);
-    columns::shift64(keys, i, w.key);
-    columns::shift16(nwks, i, w.nwk);
-    columns::shift64(links, i, w.link);
-    columns::shift64(counts, i, w.counts);
-    columns::shift64(deadlines, i, w.deadline);
-    columns::shift64(periods, i, w.period);
-    columns::shift64(heard, i, w.heard);
-    columns::shift64(added, i, w.added);
-    columns::shift64(beacons, i, w.beacon);
-    columns::shift64(bytes, i, w.bytes);
+    columns::shift_in(keys, i, w.key);
+    columns::shift_in(nwks, i, w.nwk);
+    columns::shift_in(links, i, w.link);
+    columns::shift_in(counts, i, w.counts);
+    columns::shift_in(deadlines, i, w.deadline);
+    columns::shift_in(periods, i, w.period);
+    columns::shift_in(heard, i, w.heard);
+    columns::shift_in(added, i, w.added);
+    columns::shift_in(beacons, i, w.beacon);
+    columns::shift_in(bytes, i, w.bytes);
     count + 1
 }
 
@@ -89,21 +87,21 @@ pub fn put_at(
     beacons: &mut [u64],
     bytes: &mut [u64],
     count: usize,
-    place: Place,
+    place: Result<usize, usize>,
     e: NeighborEntry,
 ) -> usize
     requires { Formed64 (in_columns keys.old nwks.old links.old counts.old deadlines.old periods.old heard.old added.old beacons.old bytes.old count) × (place ≡ place_of (take count keys.old) (neighbor_key e)) × (count_with neighbor_key (neighbor_key e) (rows_of (in_columns keys.old nwks.old links.old counts.old deadlines.old periods.old heard.old added.old beacons.old bytes.old count)) ≤ 64) }
     ensures { Keeps (in_columns keys.new nwks.new links.new counts.new deadlines.new periods.new heard.new added.new beacons.new bytes.new result) (put neighbor_key e (rows_of (in_columns keys.old nwks.old links.old counts.old deadlines.old periods.old heard.old added.old beacons.old bytes.old count))) }
 {
     match place {
-        Place::Found(i) => {
+        Ok(i) => {
             set_at(
                 keys, nwks, links, counts, deadlines, periods, heard, added, beacons, bytes, count,
                 i, e,
             );
             count
         }
-        Place::Missing(i) => insert_at(
+        Err(i) => insert_at(
             keys, nwks, links, counts, deadlines, periods, heard, added, beacons, bytes, count, i,
             e,
         ),
@@ -128,16 +126,16 @@ pub fn remove_at(
     requires { InPlaces i (in_columns keys.old nwks.old links.old counts.old deadlines.old periods.old heard.old added.old beacons.old bytes.old count) × (0 < count) }
     ensures { in_columns keys.new nwks.new links.new counts.new deadlines.new periods.new heard.new added.new beacons.new bytes.new result ≡ removed (in_columns keys.old nwks.old links.old counts.old deadlines.old periods.old heard.old added.old beacons.old bytes.old count) i }
 {
-    columns::out64(keys, i);
-    columns::out16(nwks, i);
-    columns::out64(links, i);
-    columns::out64(counts, i);
-    columns::out64(deadlines, i);
-    columns::out64(periods, i);
-    columns::out64(heard, i);
-    columns::out64(added, i);
-    columns::out64(beacons, i);
-    columns::out64(bytes, i);
+    columns::shift_out(keys, i, 0);
+    columns::shift_out(nwks, i, 0);
+    columns::shift_out(links, i, 0);
+    columns::shift_out(counts, i, 0);
+    columns::shift_out(deadlines, i, 0);
+    columns::shift_out(periods, i, 0);
+    columns::shift_out(heard, i, 0);
+    columns::shift_out(added, i, 0);
+    columns::shift_out(beacons, i, 0);
+    columns::shift_out(bytes, i, 0);
     count - 1
 }
 
@@ -161,9 +159,9 @@ pub fn remove(
 {
     let place = neighbor_columns::place_of(keys, count, eui64);
     match place {
-        Place::Found(i) => remove_at(
+        Ok(i) => remove_at(
             keys, nwks, links, counts, deadlines, periods, heard, added, beacons, bytes, count, i,
         ),
-        Place::Missing(_) => count,
+        Err(_) => count,
     }
 }

@@ -1,7 +1,7 @@
 -- A row of the neighbour table: its numbers, its key, the blank row, and what a row may say.
 -- Document 01, "Refusal numbers": "costs stored for neighbours at most 7, sample count at most 3, .. unused places blank".
 -- Assumes nothing.
-use Rattle.std.specs.Prelude.{ℕ, Bool, true, false, cond, ◌&&◌, eqb, leb}
+use Rattle.std.specs.Prelude.{ℕ, Bool, true, false, cond, ◌&&◌, eqb, leb, Option, Some, None}
 use Rattle.standard.specs.LinkCost.{link_cost}
 use Rattle.standard.specs.Median.{median_of}
 use Rattle.ring_buffer.specs.declared.RingBuffer.{RingBuffer}
@@ -10,8 +10,6 @@ use Rattle.neighbor_table.specs.declared.NwkDeviceType.{NwkDeviceType}
 use Rattle.neighbor_table.specs.declared.NwkDeviceType.TheVariants.{Coordinator, Router, EndDevice}
 use Rattle.neighbor_table.specs.declared.Relationship.{Relationship}
 use Rattle.neighbor_table.specs.declared.Relationship.TheVariants.{Parent, Child, Sibling, NoneOfTheAbove, PreviousChild, UnauthenticatedChild, UnauthorizedChildWithRelayAllowed, LostChild, AddressConflictChild, BackboneMeshSibling}
-use Rattle.neighbor_table.specs.declared.Quality.{Quality}
-use Rattle.neighbor_table.specs.declared.Quality.TheVariants.{Unknown, Known}
 use Rattle.neighbor_table.specs.declared.NeighborEntry.{NeighborEntry}
 
 -- 05-3474, table 3-75: "Device type"
@@ -57,13 +55,13 @@ is_child_of AddressConflictChild = false
 is_child_of BackboneMeshSibling = false
 
 -- the quality of a full ring is the median of its places
-abbrev pub quality_of : RingBuffer → Quality
-quality_of r = cond (eqb r.len 3) (Known (median_of r.values)) Unknown
+abbrev pub quality_of : RingBuffer → Option ℕ
+quality_of r = cond (eqb r.len 3) (Some (median_of r.values)) None
 
 -- "With fewer than three samples the incoming cost is 0"
-abbrev pub cost_of : Quality → ℕ
-cost_of Unknown = 0
-cost_of (Known quality) = link_cost quality
+abbrev pub cost_of : Option ℕ → ℕ
+cost_of None = 0
+cost_of (Some quality) = link_cost quality
 
 -- neighbours are ordered by extended address
 abbrev pub neighbor_key : NeighborEntry → ℕ

@@ -24,7 +24,7 @@ pub fn device_type(number: u64) -> NwkDeviceType
         NwkDeviceType::Router,
         NwkDeviceType::EndDevice,
     ];
-    let i = numbers::at_most(number as usize, 2);
+    let i = (number as usize).min(2);
     all[i]
 }
 
@@ -44,7 +44,7 @@ pub fn relationship(number: u64) -> Relationship
         Relationship::AddressConflictChild,
         Relationship::BackboneMeshSibling,
     ];
-    let i = numbers::at_most(number as usize, 9);
+    let i = (number as usize).min(9);
     all[i]
 }
 
@@ -249,13 +249,11 @@ pub fn push_children(n: Numbers, list: ChildList) -> Numbers
     ensures { result ≡ pushed_all n (children_numbers list) }
 {
     let count = list.count;
-    let end = numbers::at_most(count, 64);
+    let end = count.min(64);
     let mut m = numbers::push(n, count as u64);
-    let mut i: usize = 0;
-    while i < end {
+    for i in 0..end {
         let child = list.children[i];
         m = push_child(m, child);
-        i += 1;
     }
     m
 }
@@ -264,13 +262,11 @@ pub fn push_eui64s(n: Numbers, list: Eui64List) -> Numbers
     ensures { result ≡ pushed_all n (eui64s_numbers list) }
 {
     let count = list.count;
-    let end = numbers::at_most(count, 64);
+    let end = count.min(64);
     let mut m = numbers::push(n, count as u64);
-    let mut i: usize = 0;
-    while i < end {
+    for i in 0..end {
         let eui64 = list.addresses[i];
         m = push_eui64(m, eui64);
-        i += 1;
     }
     m
 }
@@ -279,13 +275,11 @@ pub fn push_nwks(n: Numbers, list: NwkList) -> Numbers
     ensures { result ≡ pushed_all n (nwks_numbers list) }
 {
     let count = list.count;
-    let end = numbers::at_most(count, 64);
+    let end = count.min(64);
     let mut m = numbers::push(n, count as u64);
-    let mut i: usize = 0;
-    while i < end {
+    for i in 0..end {
         let nwk = list.addresses[i];
         m = push_nwk(m, nwk);
-        i += 1;
     }
     m
 }
@@ -294,13 +288,11 @@ pub fn push_statuses(n: Numbers, list: LinkStatusList) -> Numbers
     ensures { result ≡ pushed_all n (statuses_numbers list) }
 {
     let count = list.count;
-    let end = numbers::at_most(count, 64);
+    let end = count.min(64);
     let mut m = numbers::push(n, count as u64);
-    let mut i: usize = 0;
-    while i < end {
+    for i in 0..end {
         let status = list.statuses[i];
         m = push_status(m, status);
-        i += 1;
     }
     m
 }

@@ -1,7 +1,7 @@
 -- What each change of neighbours leaves: the rule on the rows, for a well-formed state; refusal 10 for any other.
 -- Document 01, "Refusal numbers" and "Decision (001) and neighbours (003)".
 -- Assumes nothing.
-use Rattle.std.specs.Prelude.{cond, map}
+use Rattle.std.specs.Prelude.{cond, map, Err}
 use Rattle.types.specs.declared.Nwk.{Nwk}
 use Rattle.types.specs.declared.Eui64.{Eui64}
 use Rattle.types.specs.declared.Refusal.{Refusal}
@@ -14,12 +14,11 @@ use Rattle.neighbor_changes.specs.Change.{forgiven}
 use Rattle.neighbor_changes.specs.Rules.{changed_at, changed_first}
 use Rattle.neighbors.specs.declared.Neighbors.{Neighbors}
 use Rattle.neighbors.specs.declared.Outcome.{Outcome}
-use Rattle.neighbor_queries.specs.declared.Answer.TheVariants.{Refused}
 use Rattle.neighbors.specs.State.{well_formed, rows, done_with}
 
 -- "All hand back the given state .. and no other answer"
 abbrev pub refused : Neighbors → Refusal → Outcome
-refused s r = record { answer = Refused r; state = s }
+refused s r = record { answer = Err r; state = s }
 
 -- a known device has another network address
 unfoldable pub update_network_address : Neighbors → Eui64 → Nwk → Outcome

@@ -1,12 +1,11 @@
 -- The neighbours by value: the columns of two tables, each read as its rows.
 -- Document 01, "Added by this port": "a fresh state with empty tables"; "Refusal numbers": "Well formed".
 -- Assumes nothing.
-use Rattle.std.specs.Prelude.{ℕ, Bool, ◌&&◌, List, []}
+use Rattle.std.specs.Prelude.{ℕ, Bool, ◌&&◌, List, [], Ok}
 use Rattle.neighbor_table.specs.declared.NeighborEntry.{NeighborEntry}
 use Rattle.neighbor_columns.specs.Table as neighbours
 use Rattle.waiting_table.specs.declared.WaitingEntry.{WaitingEntry}
 use Rattle.waiting_columns.specs.Table as waiting
-use Rattle.neighbor_queries.specs.declared.Answer.TheVariants.{Done}
 use Rattle.neighbors.specs.declared.Neighbors.{Neighbors}
 use Rattle.neighbors.specs.declared.Outcome.{Outcome}
 
@@ -72,4 +71,4 @@ with_waits s ws = state_in (table_in s) (waiting.table_of ws)
 
 -- done, with other neighbours
 abbrev pub done_with : Neighbors → List NeighborEntry → Outcome
-done_with s xs = record { answer = Done; state = with_rows s xs }
+done_with s xs = record { answer = Ok tt; state = with_rows s xs }

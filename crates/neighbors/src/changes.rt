@@ -3,7 +3,6 @@ ghost use Rattle.std.specs.Prelude.{◌≡◌};
 ghost use Rattle.neighbors.specs.Changes.{update_network_address, remove, record_outbound_activity, record_inbound_activity, record_transmit_failure, reset_transmit_failures};
 
 use crate::{Neighbors, Outcome};
-use neighbor_queries::Answer;
 use types::{Eui64, Nwk, Refusal};
 
 impl Neighbors {
@@ -20,7 +19,7 @@ impl Neighbors {
         let mut state = self;
         state.nwks = nwks;
         Outcome {
-            answer: Answer::Done,
+            answer: Ok(()),
             state,
         }
     }
@@ -38,7 +37,7 @@ impl Neighbors {
         let mut state = self;
         state.counts = counts;
         Outcome {
-            answer: Answer::Done,
+            answer: Ok(()),
             state,
         }
     }
@@ -56,7 +55,7 @@ impl Neighbors {
         let mut state = self;
         state.counts = counts;
         Outcome {
-            answer: Answer::Done,
+            answer: Ok(()),
             state,
         }
     }
@@ -74,7 +73,7 @@ impl Neighbors {
         let mut state = self;
         state.counts = counts;
         Outcome {
-            answer: Answer::Done,
+            answer: Ok(()),
             state,
         }
     }
@@ -91,7 +90,7 @@ impl Neighbors {
         let mut state = self;
         state.counts = counts;
         Outcome {
-            answer: Answer::Done,
+            answer: Ok(()),
             state,
         }
     }
@@ -130,7 +129,7 @@ impl Neighbors {
         let senders = self.senders;
         let samples = self.samples;
         Outcome {
-            answer: Answer::Done,
+            answer: Ok(()),
             state: Neighbors {
                 keys,
                 nwks,

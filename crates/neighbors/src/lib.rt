@@ -11,7 +11,6 @@ ghost use Rattle.waiting_columns.specs.Table as waits;
 ghost use Rattle.neighbors.specs.State.{well_formed, formed_in, fresh};
 ghost use Rattle.neighbors.specs.Changes.{refused};
 
-use neighbor_queries::Answer;
 use types::Refusal;
 
 // The columns of the neighbours, and those of the senders that are none yet, whose samples wait.
@@ -38,7 +37,7 @@ pub struct Neighbors {
 // A changed state, or the given one where the call is refused.
 #[derive(Drop)]
 pub struct Outcome {
-    pub answer: Answer,
+    pub answer: Result<(), Refusal>,
     pub state: Neighbors,
 }
 
@@ -130,7 +129,7 @@ impl Neighbors {
         ensures { result ≡ refused self refusal }
     {
         Outcome {
-            answer: Answer::Refused(refusal),
+            answer: Err(refusal),
             state: self,
         }
     }

@@ -1,4 +1,5 @@
 -- A list gone through leaves a well-formed state well formed, since each address leaves the rows or takes one out; a list that is too long leaves them.
+use Rattle.std.specs.Prelude.{Option, Some, None}
 use mathlib.Core.Bool.{Bool, true, false, ◌&&◌}
 use mathlib.Core.List.{List, [], ◌∷◌}
 use lib.Dec.{ltb}
@@ -7,13 +8,11 @@ use Rattle.types.specs.declared.Eui64.{Eui64}
 use Rattle.standard.specs.Ordered.{lookup}
 use Rattle.standard.proofs.Picked.{by-test}
 use Rattle.neighbor_table.specs.declared.NeighborEntry.{NeighborEntry}
-use Rattle.neighbor_table.specs.declared.NeighborLookup.{NeighborLookup}
-use Rattle.neighbor_table.specs.Entry.{neighbor_key}
-use Rattle.neighbor_table.specs.Lookup.{looked}
+use Rattle.neighbor_table.specs.Entry.{neighbor_key, is_end_device}
 use Rattle.neighbor_columns.specs.Table.{FitRows}
 use Rattle.neighbor_columns.proofs.Rows.{fit-remove}
 use Rattle.neighbor_queries.specs.declared.Eui64List.{Eui64List}
-use Rattle.parent_annce.specs.Settle.{Settling, is_here, claim, drop_one, settle_one, settle_all, start}
+use Rattle.parent_annce.specs.Settle.{Settling, claim, drop_one, settle_in, settle_one, settle_all, start}
 use Rattle.parent_annce.specs.Rules.{settled_by}
 use Rattle.neighbors.specs.declared.Neighbors.{Neighbors}
 use Rattle.neighbors.specs.State.{WellFormed, well_formed, rows}
@@ -28,11 +27,12 @@ Fit x = FitRows x.rows
 module _ (confirm : Bool) where
   step-fit : (eui64 : Eui64) (x : Settling) → Fit x → Fit (settle_one confirm eui64 x)
   unfolding settle_one
-  step-fit eui64 x h =
-      by-test Fit (is_here l) _ x
-      (λ _. by-test Fit (confirm && l.entry.keepalive_received) (claim eui64 x) (drop_one eui64 l x) (λ _. h) (fit-remove x.rows h eui64.0)) h where
-        l : NeighborLookup
-        l = looked (lookup neighbor_key eui64.0 x.rows)
+  step-fit eui64 x h = go (lookup neighbor_key eui64.0 x.rows) where
+    go : (o : Option NeighborEntry) → Fit (settle_in confirm eui64 o x)
+    go None = h
+    go (Some e) =
+        by-test Fit (is_end_device e.device_type) _ x
+        (λ _. by-test Fit (confirm && e.keepalive_received) (claim eui64 x) (drop_one eui64 e x) (λ _. h) (fit-remove x.rows h eui64.0)) h
 
   all_fit : (list : List Eui64) (x : Settling) → Fit x → Fit (settle_all confirm list x)
   all_fit [] x h = h

@@ -1,5 +1,6 @@
 -- The fresh state is well formed, and every change of neighbours leaves a well-formed state well formed: each is a step on the neighbours' rows that
 -- keeps them fit, and the waiting samples stay as they were. The count of end device children is the number of rows that are such.
+use Rattle.std.specs.Prelude.{Ok}
 use mathlib.Core.Bool.{cond}
 use mathlib.Core.List.{List, []}
 use mathlib.Core.Path.{◌≡◌, ap}
@@ -15,7 +16,6 @@ use Rattle.neighbor_columns.specs.Table.{FitRows}
 use Rattle.neighbor_columns.proofs.Rows.{fit_none, fit-remove}
 use Rattle.waiting_columns.proofs.Rows as waiting
 use Rattle.neighbor_queries.specs.declared.Filter.TheVariants.{Address, EndDeviceChild}
-use Rattle.neighbor_queries.specs.declared.Count.TheVariants as counts
 use Rattle.neighbor_queries.specs.Filter.{fits}
 use Rattle.neighbor_changes.specs.declared.Change.{Change}
 use Rattle.neighbor_changes.specs.declared.Change.TheVariants as changes
@@ -65,6 +65,6 @@ module _ (s : Neighbors) (w : WellFormed s) where
   reset-transmit-failures-kept = done-kept _ (fit-forgiven (rows s) (rows_fit s w))
 
   -- the count of end device children is the number of rows that are such
-  pub child-count : end_device_child_count s ≡ counts.Is (length (keep (fits EndDeviceChild) (rows s)))
+  pub child-count : end_device_child_count s ≡ Ok (length (keep (fits EndDeviceChild) (rows s)))
   unfolding end_device_child_count
-  child-count = rw ((state-told s).flag w) (ap counts.Is (count_kept (fits EndDeviceChild) (rows s)))
+  child-count = rw ((state-told s).flag w) (ap Ok (count_kept (fits EndDeviceChild) (rows s)))

@@ -1,23 +1,20 @@
 -- Every call about children leaves a well-formed state well formed: it leaves the rows, or makes a step on them that keeps them fit. A joining
 -- child is sound and in range, since its cost, samples and counters are those that it had, or none.
+use Rattle.std.specs.Prelude.{Option, Some, None}
 use Prim.Native.Nat.{ℕ, ◌≤◌}
 use native.Mathlib.Omega.{arith}
 use mathlib.Core.List.{List}
-use mathlib.Core.Option.{Option, none, some}
 use mathlib.Core.Path.{◌≡◌, refl, sym, subst}
 use borrow.Author.Tests.{leb-true}
 use lib.Dec.{leb}
 use Rattle.types.specs.declared.Nwk.{Nwk}
 use Rattle.types.specs.declared.Eui64.{Eui64}
-use Rattle.types.specs.declared.Sum.{Sum}
-use Rattle.types.specs.declared.Sum.TheVariants.{At, Past}
 use Rattle.types.specs.Clock.{time_sum}
 use Rattle.standard.specs.Ordered.{lookup, put, remove, keep, count_with}
 use Rattle.standard.proofs.Picked.{by-test}
 use Rattle.ring_buffer.proofs.Word.{fresh-in-range}
 use Rattle.neighbor_table.specs.declared.NeighborEntry.{NeighborEntry}
 use Rattle.neighbor_table.specs.Entry.{neighbor_key, is_child_of}
-use Rattle.neighbor_table.specs.Lookup.{looked}
 use Rattle.neighbor_columns.specs.Codec.{InRange}
 use Rattle.neighbor_columns.specs.Table.{FitRows}
 use Rattle.neighbor_columns.proofs.Rows.{fit-put, fit-remove, fit-keep}
@@ -25,8 +22,6 @@ use Rattle.neighbor_queries.specs.declared.Filter.TheVariants.{EndDeviceChildAt,
 use Rattle.neighbor_queries.specs.Filter.{fits}
 use Rattle.neighbor_changes.specs.declared.Change.TheVariants.{Keepalive, Timeout}
 use Rattle.neighbor_changes.specs.Change.{misses}
-use Rattle.children.specs.declared.MaybeEui64.{MaybeEui64}
-use Rattle.children.specs.declared.MaybeNwk.{MaybeNwk}
 use Rattle.children.specs.declared.ChildDescriptor.{ChildDescriptor}
 use Rattle.children.specs.Known.{known}
 use Rattle.children.specs.Attach.{start_in, attached}
@@ -44,8 +39,8 @@ use Rattle.neighbor_calls.specs.Children.{refresh_child_timeout, set_child_timeo
 use Rattle.neighbors_kept.proofs.Fit.{found-in-range, found-sound, fit-back, fit-change-first, rows_fit, rows-formed}
 
 -- an entry to start from: the one that was found, or one with nothing in its fields
-start-in-range : (o : Option NeighborEntry) (eui64 : Eui64) (now : ℕ) → ((e : NeighborEntry) → o ≡ some e → InRange e) → InRange (start_in (looked o) eui64 now)
-start-in-range none eui64 now h = record {
+start-in-range : (o : Option NeighborEntry) (eui64 : Eui64) (now : ℕ) → ((e : NeighborEntry) → o ≡ Some e → InRange e) → InRange (start_in o eui64 now)
+start-in-range None eui64 now h = record {
   link = record { samples = fresh-in-range; cost = omega arith };
   counts = record {
     failures = omega arith;
@@ -58,7 +53,7 @@ start-in-range none eui64 now h = record {
   beacon = omega arith;
   transmitted = omega arith;
 }
-start-in-range (some e) eui64 now h = h e refl
+start-in-range (Some e) eui64 now h = h e refl
 
 attached-in-range : (child : ChildDescriptor) (at : ℕ) (e : NeighborEntry) → InRange e → InRange (attached child at e)
 attached-in-range child at e r = record {
@@ -70,32 +65,32 @@ attached-in-range child at e r = record {
 
 -- the rules on rows
 module _ (xs : List NeighborEntry) (h : FitRows xs) where
-  pub refreshed-fit : (m : MaybeEui64) (n : MaybeNwk) (now : ℕ) → FitRows (deadlines.refresh_child_timeout m n now xs)
+  pub refreshed-fit : (m : Option Eui64) (n : Option Nwk) (now : ℕ) → FitRows (deadlines.refresh_child_timeout m n now xs)
   refreshed-fit m n now = go (known m n xs) refl where
-    by : (e : NeighborEntry) → lookup neighbor_key (neighbor_key e) xs ≡ some e → (u : Sum) → FitRows (deadlines.kept_by e u xs)
-    by e l (At t) = fit-back xs h (Keepalive t) tt (neighbor_key e) e l
-    by e l Past = h
+    by : (e : NeighborEntry) → lookup neighbor_key (neighbor_key e) xs ≡ Some e → (u : Option ℕ) → FitRows (deadlines.kept_by e u xs)
+    by e l (Some t) = fit-back xs h (Keepalive t) tt (neighbor_key e) e l
+    by e l None = h
 
     go : (o : Option NeighborEntry) → known m n xs ≡ o → FitRows (deadlines.refreshed now o xs)
-    go none q = h
-    go (some e) q = by e (known-there xs h.fits.fit.ascending m n e q) (time_sum now e.device_timeout)
+    go None q = h
+    go (Some e) q = by e (known-there xs h.fits.fit.ascending m n e q) (time_sum now e.device_timeout)
 
   pub retimed-fit : (nwk : Nwk) (timeout configuration now : ℕ) → FitRows (deadlines.set_child_timeout nwk timeout configuration now xs)
   retimed-fit nwk timeout configuration now = by (time_sum now timeout) where
-    by : (u : Sum) → FitRows (deadlines.retimed nwk timeout configuration u xs)
-    by (At t) = fit-change-first xs h (Timeout timeout configuration t) tt (fits (EndDeviceChildAt nwk))
-    by Past = h
+    by : (u : Option ℕ) → FitRows (deadlines.retimed nwk timeout configuration u xs)
+    by (Some t) = fit-change-first xs h (Timeout timeout configuration t) tt (fits (EndDeviceChildAt nwk))
+    by None = h
 
   pub taken-fit : (eui64 : Eui64) → FitRows (moves.take_child eui64 xs)
   taken-fit eui64 = go (lookup neighbor_key eui64.0 xs) where
     go : (o : Option NeighborEntry) → FitRows (moves.taken eui64 o xs)
-    go none = h
-    go (some e) = by-test FitRows (is_child_of e.relationship) (remove neighbor_key eui64.0 xs) xs (λ _. fit-remove xs h eui64.0) h
+    go None = h
+    go (Some e) = by-test FitRows (is_child_of e.relationship) (remove neighbor_key eui64.0 xs) xs (λ _. fit-remove xs h eui64.0) h
 
   pub upserted-fit : (child : ChildDescriptor) (now : ℕ) → FitRows (moves.upsert_child child now xs)
   upserted-fit child now = by (time_sum now child.device_timeout) where
     begun : NeighborEntry
-    begun = start_in (looked (lookup neighbor_key child.eui64.0 xs)) child.eui64 now
+    begun = start_in (lookup neighbor_key child.eui64.0 xs) child.eui64 now
 
     put_fit : (at : ℕ) → count_with neighbor_key child.eui64.0 xs ≤ 64 → FitRows (put neighbor_key (attached child at begun) xs)
     put_fit at room =
@@ -104,15 +99,15 @@ module _ (xs : List NeighborEntry) (h : FitRows xs) where
         (attached-sound child at begun (start-sound (lookup neighbor_key child.eui64.0 xs) child.eui64 now (found-sound xs h child.eui64.0)))
         (subst (λ (k : ℕ). count_with neighbor_key k xs ≤ 64) (sym (start-key child.eui64 now xs)) room)
 
-    by : (u : Sum) → FitRows (moves.upserted child now u xs)
-    by (At at) =
+    by : (u : Option ℕ) → FitRows (moves.upserted child now u xs)
+    by (Some at) =
         by-test FitRows (leb (count_with neighbor_key child.eui64.0 xs) 64) (put neighbor_key (attached child at begun) xs) xs
         (λ e. put_fit at (leb-true _ 64 e)) h
-    by Past = h
+    by None = h
 
 -- the exported calls
 module _ (s : Neighbors) (w : WellFormed s) where
-  pub refresh-child-timeout-kept : (m : MaybeEui64) (n : MaybeNwk) (now : ℕ) → WellFormed (refresh_child_timeout s m n now).state
+  pub refresh-child-timeout-kept : (m : Option Eui64) (n : Option Nwk) (now : ℕ) → WellFormed (refresh_child_timeout s m n now).state
   unfolding refresh_child_timeout
   refresh-child-timeout-kept m n now =
       by-test (λ (x : TruthOutcome). WellFormed x.state) (well_formed s) _ _

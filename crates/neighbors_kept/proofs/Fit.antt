@@ -1,10 +1,10 @@
 -- Rows that fit and are in range stay so when one that was found is changed and put back: it stands under its key, so there is a place for it, and
 -- a change writes only what is within its width, since counters stop at 255 and a sample is a byte. So a state with such rows is well formed.
+use Rattle.std.specs.Prelude.{Option, Some, None}
 use Prim.Native.Nat.{ℕ, ◌<◌, ◌≤◌}
 use native.Mathlib.Omega.{arith}
 use mathlib.Core.Bool.{Bool, true}
 use mathlib.Core.List.{List, map}
-use mathlib.Core.Option.{Option, none, some}
 use mathlib.Core.Path.{◌≡◌, refl, sym, subst}
 use Rattle.standard.specs.Ordered.{lookup, put, count_with}
 use Rattle.standard.specs.Query.{first}
@@ -125,13 +125,13 @@ forgiven-in-range e r = record {
 
 module _ (xs : List NeighborEntry) (h : FitRows xs) where
   -- a row that is found is in range and sound, and has its place
-  pub found-in-range : (k : ℕ) (e : NeighborEntry) → lookup neighbor_key k xs ≡ some e → InRange e
+  pub found-in-range : (k : ℕ) (e : NeighborEntry) → lookup neighbor_key k xs ≡ Some e → InRange e
   found-in-range k e l = each-found neighbor_key InRange k xs e h.fits.ranged l
 
-  pub found-sound : (k : ℕ) (e : NeighborEntry) → lookup neighbor_key k xs ≡ some e → is_sound e ≡ true
+  pub found-sound : (k : ℕ) (e : NeighborEntry) → lookup neighbor_key k xs ≡ Some e → is_sound e ≡ true
   found-sound k e l = every-lookup is_sound neighbor_key k xs e h.sound l
 
-  pub found-room : (k : ℕ) (e : NeighborEntry) → lookup neighbor_key k xs ≡ some e → count_with neighbor_key (neighbor_key e) xs ≤ 64
+  pub found-room : (k : ℕ) (e : NeighborEntry) → lookup neighbor_key k xs ≡ Some e → count_with neighbor_key (neighbor_key e) xs ≤ 64
   found-room k e l =
       subst (λ (j : ℕ). count_with neighbor_key j xs ≤ 64) (sym (lookup_key neighbor_key k xs e l)) (room-known 64 neighbor_key blank_neighbor xs h.fits.fit k e l)
 
@@ -140,7 +140,7 @@ module _ (xs : List NeighborEntry) (h : FitRows xs) where
 
   -- changed and put back
   module _ (change : Change) (b : Small change) where
-    pub fit-back : (k : ℕ) (e : NeighborEntry) → lookup neighbor_key k xs ≡ some e → FitRows (put neighbor_key (applied change e) xs)
+    pub fit-back : (k : ℕ) (e : NeighborEntry) → lookup neighbor_key k xs ≡ Some e → FitRows (put neighbor_key (applied change e) xs)
     fit-back k e l =
         fit-put xs h (applied change e) (changed-in-range change b e (found-in-range k e l)) (still-sound change e (found-sound k e l))
         (subst (λ (j : ℕ). count_with neighbor_key j xs ≤ 64) (sym (same_key change e)) (found-room k e l))
@@ -148,14 +148,14 @@ module _ (xs : List NeighborEntry) (h : FitRows xs) where
     pub fit-change-at : (k : ℕ) → FitRows (put_back neighbor_key (applied change) (lookup neighbor_key k xs) xs)
     fit-change-at k = go (lookup neighbor_key k xs) refl where
       go : (o : Option NeighborEntry) → lookup neighbor_key k xs ≡ o → FitRows (put_back neighbor_key (applied change) o xs)
-      go none q = h
-      go (some e) q = fit-back k e q
+      go None q = h
+      go (Some e) q = fit-back k e q
 
     pub fit-change-first : (fits : NeighborEntry → Bool) → FitRows (put_back neighbor_key (applied change) (first fits xs) xs)
     fit-change-first fits = go (first fits xs) refl where
       go : (o : Option NeighborEntry) → first fits xs ≡ o → FitRows (put_back neighbor_key (applied change) o xs)
-      go none q = h
-      go (some e) q = fit-back (neighbor_key e) e (first-lookup neighbor_key fits xs e h.fits.fit.ascending q)
+      go None q = h
+      go (Some e) q = fit-back (neighbor_key e) e (first-lookup neighbor_key fits xs e h.fits.fit.ascending q)
 
 -- the state of rows that fit is well formed
 pub state-formed : (xs : List NeighborEntry) (ws : List WaitingEntry) → FitRows xs → waiting.FitRows ws → WellFormed (state_of xs ws)

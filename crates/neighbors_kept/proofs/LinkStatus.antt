@@ -1,17 +1,15 @@
 -- A link status leaves a well-formed state well formed, whether it is refused, known or new: the cost that it stores is one that it had or was given,
 -- at most 7, its sums stop at 255, and the samples are those stored, or those that waited with one more that is a byte.
+use Rattle.std.specs.Prelude.{Option, Some, None}
 use Prim.Native.Nat.{ℕ, ◌+◌, ◌<◌, ◌≤◌, min}
 use native.Mathlib.Omega.{arith}
 use mathlib.Core.Bool.{Bool, true, false, cond, not, ◌&&◌}
 use mathlib.Core.List.{List, [], ◌∷◌}
-use mathlib.Core.Option.{Option, none, some}
 use mathlib.Core.Path.{◌≡◌, refl, sym, subst}
 use borrow.Author.Tests.{leb-true}
 use lib.Dec.{leb, ltb}
 use Rattle.types.specs.declared.Nwk.{Nwk}
 use Rattle.types.specs.declared.Eui64.{Eui64}
-use Rattle.types.specs.declared.Sum.{Sum}
-use Rattle.types.specs.declared.Sum.TheVariants.{At, Past}
 use Rattle.types.specs.declared.Refusal.{Refusal}
 use Rattle.types.specs.declared.Refusal.TheVariants.{NeighborTableFull, TimePastEnd, ListTooLong, LinkCostTooHigh}
 use Rattle.types.specs.Clock.{time_sum}
@@ -25,13 +23,11 @@ use Rattle.ring_buffer.specs.Word as word
 use Rattle.ring_buffer.proofs.Word.{fresh-in-range, push-in-range}
 use Rattle.neighbor_table.specs.declared.NeighborEntry.{NeighborEntry}
 use Rattle.neighbor_table.specs.Entry.{neighbor_key, is_sound}
-use Rattle.neighbor_table.specs.Lookup as neighbours
 use Rattle.neighbor_columns.specs.Codec.{InRange}
 use Rattle.neighbor_columns.specs.Table.{FitRows}
 use Rattle.neighbor_columns.proofs.Rows.{fit-put}
 use Rattle.waiting_table.specs.declared.WaitingEntry.{WaitingEntry}
-use Rattle.waiting_table.specs.Entry.{waiting_key}
-use Rattle.waiting_table.specs.Lookup as looks
+use Rattle.waiting_table.specs.Entry.{waiting_key, ring_in}
 use Rattle.waiting_columns.specs.Codec as wait
 use Rattle.waiting_columns.specs.Table as waiting
 use Rattle.waiting_columns.proofs.Rows as waiting-rows
@@ -92,9 +88,9 @@ finished-in-range now x e c b r = record {
 
 samples-in-range : (nwk : Nwk) (lqi : ℕ) → lqi < 256 → (ws : List WaitingEntry) → Each wait.InRange ws → word.InRange (samples_of nwk lqi ws)
 samples-in-range nwk lqi b ws h = go (lookup waiting_key nwk.0 ws) refl where
-  go : (o : Option WaitingEntry) → lookup waiting_key nwk.0 ws ≡ o → word.InRange (ring.after_push (looks.looked o).entry.lqas lqi)
-  go none q = push-in-range ring.fresh lqi b fresh-in-range
-  go (some e) q = push-in-range e.lqas lqi b (each-found waiting_key wait.InRange nwk.0 ws e h q)
+  go : (o : Option WaitingEntry) → lookup waiting_key nwk.0 ws ≡ o → word.InRange (ring.after_push (ring_in o) lqi)
+  go None q = push-in-range ring.fresh lqi b fresh-in-range
+  go (Some e) q = push-in-range e.lqas lqi b (each-found waiting_key wait.InRange nwk.0 ws e h q)
 
 new-in-range : (name : Eui64) (nwk : Nwk) (at now : ℕ) (samples : RingBuffer) → word.InRange samples → InRange (new_router name nwk at now samples)
 unfolding new_router
@@ -140,8 +136,8 @@ module _ (xs : List NeighborEntry) (ws : List WaitingEntry) (h : FitRows xs) (k 
       bytes = tallied-bytes own (is_live_at xs) (statuses_of command) (begun command.is_first_frame e) (begun-bytes command.is_first_frame e r)
 
     module _ (name : Eui64) (lqi : ℕ) (b : lqi < 256) where
-      admitted-fit : (u : Sum) → BothFit (admitted_rows (refused_rows xs ws) left_rows xs ws own name nwk lqi command now u)
-      admitted-fit (At at) =
+      admitted-fit : (u : Option ℕ) → BothFit (admitted_rows (refused_rows xs ws) left_rows xs ws own name nwk lqi command now u)
+      admitted-fit (Some at) =
           let e = new_router name nwk at now (samples_of nwk lqi ws) in
           by-test BothFit (leb (count_with neighbor_key name.0 xs) 64) (digested_rows left_rows xs ws nwk now e (tally_by xs own command e)) (refused_rows xs ws NeighborTableFull)
           (λ q. digested-fit e
@@ -149,20 +145,20 @@ module _ (xs : List NeighborEntry) (ws : List WaitingEntry) (h : FitRows xs) (k 
           (new-sound name nwk at now lqi ws k.sound)
           (subst (λ (j : ℕ). count_with neighbor_key j xs ≤ 64) (sym (new-key name nwk at now (samples_of nwk lqi ws))) (leb-true _ 64 q)))
           (left NeighborTableFull)
-      admitted-fit Past = left TimePastEnd
+      admitted-fit None = left TimePastEnd
 
-      heard-fit : BothFit (heard_rows (refused_rows xs ws) left_rows xs ws own name nwk lqi command now (neighbours.looked (lookup neighbor_key name.0 xs)))
+      heard-fit : BothFit (heard_rows (refused_rows xs ws) left_rows xs ws own name nwk lqi command now (lookup neighbor_key name.0 xs))
       heard-fit = go (lookup neighbor_key name.0 xs) refl where
-        go : (o : Option NeighborEntry) → lookup neighbor_key name.0 xs ≡ o → BothFit (heard_rows (refused_rows xs ws) left_rows xs ws own name nwk lqi command now (neighbours.looked o))
-        go none q = admitted-fit (time_sum now forever)
-        go (some e) q = digested-fit e (found-in-range xs h name.0 e q) (found-sound xs h name.0 e q) (found-room xs h name.0 e q)
+        go : (o : Option NeighborEntry) → lookup neighbor_key name.0 xs ≡ o → BothFit (heard_rows (refused_rows xs ws) left_rows xs ws own name nwk lqi command now o)
+        go None q = admitted-fit (time_sum now forever)
+        go (Some e) q = digested-fit e (found-in-range xs h name.0 e q) (found-sound xs h name.0 e q) (found-room xs h name.0 e q)
 
   pub status-fit : (name : Eui64) (lqi : ℕ) → lqi < 256 → BothFit (on_link_status_rows xs ws own name nwk lqi command now)
   status-fit name lqi b = go (ltb 31 command.count) (every costs_fit (statuses_of command)) refl where
     go : (long fit : Bool) → every costs_fit (statuses_of command) ≡ fit
         → BothFit (cond {A = RowsLeft} long (refused_rows xs ws ListTooLong)
         (cond {A = RowsLeft} (not fit) (refused_rows xs ws LinkCostTooHigh)
-        (heard_rows (refused_rows xs ws) left_rows xs ws own name nwk lqi command now (neighbours.looked (lookup neighbor_key name.0 xs)))))
+        (heard_rows (refused_rows xs ws) left_rows xs ws own name nwk lqi command now (lookup neighbor_key name.0 xs))))
     go true fit e = left ListTooLong
     go false true e = heard-fit e name lqi b
     go false false e = left LinkCostTooHigh

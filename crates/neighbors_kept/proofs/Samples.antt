@@ -1,8 +1,8 @@
 -- A sample leaves a well-formed state well formed: a neighbour with one more sample is sound and in range, and so are samples that wait, for which
 -- the lowest address makes room.
+use Rattle.std.specs.Prelude.{Option, Some, None}
 use Prim.Native.Nat.{ℕ, ◌<◌}
 use mathlib.Core.List.{List}
-use mathlib.Core.Option.{Option, none, some}
 use mathlib.Core.Path.{◌≡◌, refl}
 use lib.Dec.{leb}
 use Rattle.types.specs.declared.Nwk.{Nwk}
@@ -15,7 +15,6 @@ use Rattle.ring_buffer.proofs.Word.{fresh-in-range, push-in-range}
 use Rattle.neighbor_table.specs.declared.NeighborEntry.{NeighborEntry}
 use Rattle.waiting_table.specs.declared.WaitingEntry.{WaitingEntry}
 use Rattle.waiting_table.specs.Entry.{waiting_key}
-use Rattle.waiting_table.specs.Lookup.{looked}
 use Rattle.waiting_columns.specs.Codec.{InRange}
 use Rattle.waiting_columns.specs.Table.{FitRows}
 use Rattle.waiting_columns.proofs.Rows.{fit-put, fit-pop}
@@ -34,21 +33,21 @@ module _ (nwk : Nwk) (lqi : ℕ) (b : lqi < 256) (ws : List WaitingEntry) (h : F
   room-fit : FitRows (room_for nwk ws)
   room-fit = by-test FitRows (leb (count_with waiting_key nwk.0 ws) 64) ws (pop_first ws) (λ _. h) (fit-pop ws h)
 
-  more-in-range : InRange (one_more (looked (lookup waiting_key nwk.0 (room_for nwk ws))) nwk lqi)
+  more-in-range : InRange (one_more (lookup waiting_key nwk.0 (room_for nwk ws)) nwk lqi)
   more-in-range = go (lookup waiting_key nwk.0 (room_for nwk ws)) refl where
-    go : (o : Option WaitingEntry) → lookup waiting_key nwk.0 (room_for nwk ws) ≡ o → InRange (one_more (looked o) nwk lqi)
-    go none q = push-in-range fresh lqi b fresh-in-range
-    go (some e) q = push-in-range e.lqas lqi b (each-found waiting_key InRange nwk.0 (room_for nwk ws) e room-fit.fits.ranged q)
+    go : (o : Option WaitingEntry) → lookup waiting_key nwk.0 (room_for nwk ws) ≡ o → InRange (one_more o nwk lqi)
+    go None q = push-in-range fresh lqi b fresh-in-range
+    go (Some e) q = push-in-range e.lqas lqi b (each-found waiting_key InRange nwk.0 (room_for nwk ws) e room-fit.fits.ranged q)
 
   after-fit : FitRows (waiting_after nwk lqi ws)
   after-fit =
-      fit-put (room_for nwk ws) room-fit (one_more (looked (lookup waiting_key nwk.0 (room_for nwk ws))) nwk lqi) more-in-range
+      fit-put (room_for nwk ws) room-fit (one_more (lookup waiting_key nwk.0 (room_for nwk ws)) nwk lqi) more-in-range
       (more-sound nwk ws lqi h.sound) (room-made nwk ws h.fits.fit.small)
 
   -- by the neighbour that has the address, if there is one
   pub unless-fit : (o : Option NeighborEntry) → FitRows (waiting_unless o nwk lqi ws)
-  unless-fit none = after-fit
-  unless-fit (some e) = h
+  unless-fit None = after-fit
+  unless-fit (Some e) = h
 
 pub record-lqa-kept : (s : Neighbors) → WellFormed s → (nwk : Nwk) (lqi : ℕ) → lqi < 256 → WellFormed (record_lqa s nwk lqi).state
 unfolding record_lqa

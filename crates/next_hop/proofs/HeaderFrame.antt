@@ -1,5 +1,6 @@
 -- A decision leaves the header as it came, or sets a source route in it, as each of its outcomes does;
 -- and a refusal hands the header back. Hence every field that a source route does not name has its old value.
+use Rattle.std.specs.Prelude.{Ok, Err}
 use Prim.Native.Nat.{ℕ}
 use native.Mathlib.Omega.{arith}
 use mathlib.Core.Bool.{Bool, true, false, cond, ◌&&◌, ◌||◌}
@@ -19,7 +20,7 @@ use Rattle.neighbors.specs.State as neighbours
 use Rattle.frame.specs.declared.NwkHeader.{NwkHeader}
 use Rattle.frame.specs.Header.{carries_long, source_routed}
 use Rattle.next_hop.specs.declared.SendMode.{SendMode}
-use Rattle.next_hop.specs.declared.NextHop.TheVariants.{Refused, Resolved}
+use Rattle.next_hop.specs.declared.NextHop.TheVariants.{Resolved}
 use Rattle.hop_choice.specs.declared.Policy.{Policy}
 use Rattle.next_hop.specs.declared.ResolveOutcome.{ResolveOutcome}
 use Rattle.next_hop.specs.Decision.{refused_with, decided, names_long, resolve}
@@ -91,15 +92,15 @@ module _ (r : Routing) (h : NwkHeader) (m : SendMode) (p : Policy) (store : List
   header-frame n = same-besides (resolve-shaped n)
 
   -- where no hop is given, the header is whole as it came
-  unresolved : {x : ResolveOutcome} → Shaped r h m p store x → ((n : Nwk) → x.answer ≡ Resolved n → ⊥) → x.header ≡ h
+  unresolved : {x : ResolveOutcome} → Shaped r h m p store x → ((n : Nwk) → x.answer ≡ (Ok (Resolved n)) → ⊥) → x.header ≡ h
   unresolved (kept a) free = refl
   unresolved by-host free = absurd (free _ refl)
   unresolved by-record free = absurd (free _ refl)
 
-  pub unresolved-kept : (n : Neighbors) → ((hop : Nwk) → (resolve r n h m p store).answer ≡ Resolved hop → ⊥) → (resolve r n h m p store).header ≡ h
+  pub unresolved-kept : (n : Neighbors) → ((hop : Nwk) → (resolve r n h m p store).answer ≡ (Ok (Resolved hop)) → ⊥) → (resolve r n h m p store).header ≡ h
   unresolved-kept n free = unresolved (resolve-shaped n) free
 
-  pub refused-kept : (n : Neighbors) (why : Refusal) → (resolve r n h m p store).answer ≡ Refused why → (resolve r n h m p store).header ≡ h
+  pub refused-kept : (n : Neighbors) (why : Refusal) → (resolve r n h m p store).answer ≡ Err why → (resolve r n h m p store).header ≡ h
   refused-kept n why e = unresolved-kept n (λ hop q. let z : ◌≡◌ {A = ℕ} 0 1 = cc in omega arith)
 
   -- the contract leaves one answer

@@ -1,5 +1,6 @@
 -- Calls worked out, by the default policy: each computes to its row.
 -- A row is what a script is told: the number of the answer, the hop, and the header's numbers.
+use Rattle.std.specs.Prelude.{None}
 use Prim.Native.Nat.{ℕ}
 use mathlib.Core.Bool.{true, false}
 use mathlib.Core.List.{List, [], ◌∷◌}
@@ -39,8 +40,6 @@ use Rattle.neighbors.specs.State as known
 use Rattle.frame.specs.declared.NwkFrameType.TheVariants.{Data}
 use Rattle.frame.specs.declared.NwkRouteDiscovery.{NwkRouteDiscovery}
 use Rattle.frame.specs.declared.NwkRouteDiscovery.TheVariants.{Suppress, Enable, WithMulticast}
-use Rattle.frame.specs.declared.OptionalEui64.TheVariants as name
-use Rattle.frame.specs.declared.OptionalByte.TheVariants as byte
 use Rattle.frame.specs.declared.NwkHeader.{NwkHeader}
 use Rattle.frame.specs.Numbers.{header_numbers}
 use Rattle.hop_choice.specs.declared.HostRoute.TheVariants.{NextHop, SourceRoute}
@@ -70,9 +69,9 @@ header d = record {
   source = nwk 0;
   radius = 30;
   sequence_number = 1;
-  destination_ieee = name.Absent;
-  source_ieee = name.Absent;
-  multicast_control = byte.Absent;
+  destination_ieee = None;
+  source_ieee = None;
+  multicast_control = None;
   has_source_route = false;
   source_route = record { relay_index = 0; relays = relay_list [] };
 }

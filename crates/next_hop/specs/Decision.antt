@@ -5,19 +5,16 @@
 -- Departures of the Rust from it, each a step of its own: `direct_step`, `forced_step` and `hint_step` are wishes of the host, which the standard
 -- does not have; `record_step` goes before `active_step`, where the standard asks the routing table first; a policy may pass over both.
 -- Assumes nothing.
-use Rattle.std.specs.Prelude.{ℕ, ◌-◌, Bool, true, false, cond, not, ◌&&◌, ◌||◌, List, [], ◌∷◌, eqb, ltb, get_or}
-use Rattle.std.proofs.Math.Option.{Option, none, some}
+use Rattle.std.specs.Prelude.{ℕ, ◌-◌, Bool, true, false, cond, not, ◌&&◌, ◌||◌, List, [], ◌∷◌, eqb, ltb, get_or, Option, Some, None, Result, Ok, Err}
 use Rattle.types.specs.declared.Nwk.{Nwk}
 use Rattle.types.specs.declared.Refusal.{Refusal}
-use Rattle.types.specs.declared.Refusal.TheVariants.{UnknownNextHop, EmptySourceRoute, ListTooLong, StoreDisagrees, StateIllFormed}
+use Rattle.types.specs.declared.Refusal.TheVariants.{EmptySourceRoute, ListTooLong, StoreDisagrees, StateIllFormed}
 use Rattle.standard.specs.declared.RelayList.{RelayList}
 use Rattle.standard.specs.declared.RouteEntry.{RouteEntry}
 use Rattle.standard.specs.Calls.{hop_at}
 use Rattle.standard.specs.Route.{nwk}
 use Rattle.record_table.specs.Table.{RecordTable}
 use Rattle.relay_store.specs.Store.{agrees}
-use Rattle.route_calls.specs.declared.HopAnswer.{HopAnswer}
-use Rattle.route_calls.specs.declared.HopAnswer.TheVariants as active
 use Rattle.route_calls.specs.Answer.{hop_answer}
 use Rattle.route_record.specs.Answer.{way_to}
 use Rattle.routing.specs.State.{record_table}
@@ -43,17 +40,17 @@ use Rattle.hop_choice.specs.declared.SendKind.TheVariants.{Direct, Route}
 use Rattle.hop_choice.specs.Choice.{first_of}
 use Rattle.next_hop.specs.declared.SendMode.{SendMode}
 use Rattle.next_hop.specs.declared.NextHop.{NextHop}
-use Rattle.next_hop.specs.declared.NextHop.TheVariants.{Refused, Resolved, NeedDiscovery, Discard}
+use Rattle.next_hop.specs.declared.NextHop.TheVariants.{Resolved, NeedDiscovery, Discard}
 use Rattle.hop_choice.specs.declared.Policy.{Policy}
 use Rattle.next_hop.specs.declared.ResolveOutcome.{ResolveOutcome}
 
 -- a hop, with the header as it came
 abbrev pub hop_to : NwkHeader → Nwk → ResolveOutcome
-hop_to h n = record { answer = Resolved n; header = h }
+hop_to h n = record { answer = Ok (Resolved n); header = h }
 
 -- "All hand back the given state, header and store unchanged and no other answer."
 abbrev pub refused_with : NwkHeader → Refusal → ResolveOutcome
-refused_with h why = record { answer = Refused why; header = h }
+refused_with h why = record { answer = Err why; header = h }
 
 -- "the hop is the last relay"; 05-3474, section 3.6.4.3.1
 abbrev pub last_relay : RelayList → Nwk
@@ -61,7 +58,7 @@ last_relay relays = get_or relays.addresses (relays.count - 1) (nwk 0)
 
 -- "A source route sets flag, relay list, index n - 1 and suppressed discovery"
 abbrev pub by_source_route : NwkHeader → RelayList → ResolveOutcome
-by_source_route h relays = record { answer = Resolved (last_relay relays); header = source_routed h relays }
+by_source_route h relays = record { answer = Ok (Resolved (last_relay relays)); header = source_routed h relays }
 
 -- a host route applied; 7, "an empty host source route is the one to be applied (the Rust unwraps)"
 abbrev pub host_routed : NwkHeader → RelayList → HostRoute → ResolveOutcome
@@ -70,26 +67,26 @@ host_routed h relays host.SourceRoute = cond (eqb relays.count 0) (refused_with 
 
 -- "direct mode": a wish of the host
 abbrev pub direct_step : NwkHeader → SendKind → Option ResolveOutcome
-direct_step h Direct = some (hop_to h h.destination)
-direct_step h (Route d) = none
+direct_step h Direct = Some (hop_to h h.destination)
+direct_step h (Route d) = None
 
 -- "forced host route": a wish of the host
 abbrev pub forced_step : NwkHeader → RelayList → SendKind → Option ResolveOutcome
-forced_step h relays Direct = none
-forced_step h relays (Route StackDecides) = none
-forced_step h relays (Route (Hint r)) = none
-forced_step h relays (Route (Force r)) = some (host_routed h relays r)
+forced_step h relays Direct = None
+forced_step h relays (Route StackDecides) = None
+forced_step h relays (Route (Hint r)) = None
+forced_step h relays (Route (Force r)) = Some (host_routed h relays r)
 
 -- "end device child (not merely any child)"; 05-3474, section 3.6.4.3: a router delivers to its end device child itself
 abbrev pub child_step : List NeighborEntry → NwkHeader → Option ResolveOutcome
-child_step near h = cond (is_end_device_child near h.destination) (some (hop_to h h.destination)) none
+child_step near h = cond (is_end_device_child near h.destination) (Some (hop_to h h.destination)) None
 
 -- what the route query says: a hop, a source route, 6, or nothing
-abbrev pub from_way : NwkHeader → RelayList → RouteToAnswer → Option ResolveOutcome
-from_way h relays (way.Refused why) = some (refused_with h why)
-from_way h relays way.NoRoute = none
-from_way h relays (way.NextHop n) = some (hop_to h n)
-from_way h relays way.SourceRoute = some (by_source_route h relays)
+abbrev pub from_way : NwkHeader → RelayList → Result RouteToAnswer Refusal → Option ResolveOutcome
+from_way h relays (Err why) = Some (refused_with h why)
+from_way h relays (Ok way.NoRoute) = None
+from_way h relays (Ok (way.NextHop n)) = Some (hop_to h n)
+from_way h relays (Ok way.SourceRoute) = Some (by_source_route h relays)
 
 -- the route query on routes and records: that of a state, `route_to_core`, is this of its own
 abbrev pub route_on : List RouteEntry → RecordTable → Nwk → ℕ → List ℕ → RouteToOutcome
@@ -100,28 +97,28 @@ unfoldable pub record_step : List RouteEntry → RecordTable → NwkHeader → P
 record_step routes t h p store =
     cond (p.is_concentrator && not p.force_route_discovery)
     (from_way h (route_on routes t h.destination p.max_source_route store).relays (route_on routes t h.destination p.max_source_route store).answer)
-    none
+    None
 
 -- what the look-up of an Active route says: a hop, 6 for 0xFFFF, or nothing
-abbrev pub from_hop : NwkHeader → HopAnswer → Option ResolveOutcome
-from_hop h active.NoRoute = none
-from_hop h (active.Hop n) = some (hop_to h n)
-from_hop h active.Unknown = some (refused_with h UnknownNextHop)
+abbrev pub from_hop : NwkHeader → Result (Option Nwk) Refusal → Option ResolveOutcome
+from_hop h (Ok None) = None
+from_hop h (Ok (Some n)) = Some (hop_to h n)
+from_hop h (Err why) = Some (refused_with h why)
 
 -- "Active route"; 05-3474, section 3.6.4.3: the next hop of the routing table entry; "Force-discovery skips the two table steps only."
 unfoldable pub active_step : List RouteEntry → NwkHeader → Policy → Option ResolveOutcome
-active_step routes h p = cond p.force_route_discovery none (from_hop h (hop_answer (hop_at h.destination.0 routes)))
+active_step routes h p = cond p.force_route_discovery None (from_hop h (hop_answer (hop_at h.destination.0 routes)))
 
 -- "hint": a wish of the host
 abbrev pub hint_step : NwkHeader → RelayList → SendKind → Option ResolveOutcome
-hint_step h relays Direct = none
-hint_step h relays (Route StackDecides) = none
-hint_step h relays (Route (Hint r)) = some (host_routed h relays r)
-hint_step h relays (Route (Force r)) = none
+hint_step h relays Direct = None
+hint_step h relays (Route StackDecides) = None
+hint_step h relays (Route (Hint r)) = Some (host_routed h relays r)
+hint_step h relays (Route (Force r)) = None
 
 -- "then discard if discovery is suppressed, else discovery needed"; 05-3474, section 3.6.3.3
 abbrev pub undiscovered : NwkHeader → ResolveOutcome
-undiscovered h = record { answer = cond (is_suppressed h.frame_control.discover_route) Discard NeedDiscovery; header = h }
+undiscovered h = record { answer = cond (is_suppressed h.frame_control.discover_route) (Ok Discard) (Ok NeedDiscovery); header = h }
 
 -- document 01's order, on the rows of the tables
 abbrev pub steps_of : List RouteEntry → RecordTable → List NeighborEntry → NwkHeader → RelayList → Policy → List ℕ → SendKind → List (Option ResolveOutcome)

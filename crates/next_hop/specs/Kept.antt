@@ -1,7 +1,7 @@
 -- What a decision may do to a header: nothing, or a source route set in it.
 -- Document 01, "Decision (001) and neighbours (003)": "A source route sets flag, relay list, index n - 1 and suppressed discovery; .. Nothing else in the header changes."
 -- Assumes nothing.
-use Rattle.std.specs.Prelude.{ℕ, List, ◌≡◌}
+use Rattle.std.specs.Prelude.{ℕ, List, ◌≡◌, Result}
 use Rattle.standard.specs.declared.RelayList.{RelayList}
 use Rattle.routing.specs.declared.Routing.{Routing}
 use Rattle.routing.specs.Records.{route_to_core}
@@ -11,6 +11,7 @@ use Rattle.next_hop.specs.declared.NextHop.{NextHop}
 use Rattle.hop_choice.specs.declared.Policy.{Policy}
 use Rattle.next_hop.specs.declared.ResolveOutcome.{ResolveOutcome}
 use Rattle.next_hop.specs.Decision.{by_source_route}
+use Rattle.types.specs.declared.Refusal.{Refusal}
 
 -- every field that a source route does not name has its old value
 pub record SameBesides (h k : NwkHeader) : Type 0 where
@@ -36,6 +37,6 @@ record_relays r h p store = (route_to_core r h.destination p.max_source_route st
 
 -- the header as it came beside any answer, or a source route: the host's, or the one of the destination's record
 pub data Shaped (r : Routing) (h : NwkHeader) (m : SendMode) (p : Policy) (store : List ℕ) : ResolveOutcome → Type 0 where
-  kept : (a : NextHop) → Shaped r h m p store (record { answer = a; header = h })
+  kept : (a : Result NextHop Refusal) → Shaped r h m p store (record { answer = a; header = h })
   by-host : Shaped r h m p store (by_source_route h m.relays)
   by-record : Shaped r h m p store (by_source_route h (record_relays r h p store))

@@ -35,7 +35,6 @@ pub struct SendMode {
 // What is decided of a frame.
 #[derive(Drop)]
 pub enum NextHop {
-    Refused(Refusal),
     Resolved(Nwk),
     NeedDiscovery,
     Discard,
@@ -44,7 +43,7 @@ pub enum NextHop {
 // What is decided, and the header to be sent.
 #[derive(Drop)]
 pub struct ResolveOutcome {
-    pub answer: NextHop,
+    pub answer: Result<NextHop, Refusal>,
     pub header: NwkHeader,
 }
 

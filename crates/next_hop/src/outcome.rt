@@ -14,7 +14,7 @@ pub fn hop(header: NwkHeader, next: Nwk) -> ResolveOutcome
     ensures { result ≡ hop_to header next }
 {
     ResolveOutcome {
-        answer: NextHop::Resolved(next),
+        answer: Ok(NextHop::Resolved(next)),
         header,
     }
 }
@@ -24,7 +24,7 @@ pub fn refuse(header: NwkHeader, refusal: Refusal) -> ResolveOutcome
     ensures { result ≡ refused_with header refusal }
 {
     ResolveOutcome {
-        answer: NextHop::Refused(refusal),
+        answer: Err(refusal),
         header,
     }
 }
@@ -41,7 +41,7 @@ pub fn by_source_route(header: NwkHeader, relays: RelayList) -> ResolveOutcome
 
 // The outcome of a choice. The relays of a record are read from its row of the store; those of the host are given.
 pub fn make(
-    choice: Choice,
+    choice: Result<Choice, Refusal>,
     record_lengths: &[u8],
     store: &[u16],
     header: NwkHeader,
@@ -51,19 +51,19 @@ pub fn make(
     ensures { result ≡ made header relays record_lengths.now store.now choice }
 {
     match choice {
-        Choice::Refused(refusal) => refuse(header, refusal),
-        Choice::Hop(next) => hop(header, next),
-        Choice::ByRecord(i) => {
+        Err(refusal) => refuse(header, refusal),
+        Ok(Choice::Hop(next)) => hop(header, next),
+        Ok(Choice::ByRecord(i)) => {
             let known = relay_store::relays_at(store, i, record_lengths[i] as usize);
             by_source_route(header, known)
         }
-        Choice::ByHost => by_source_route(header, relays),
-        Choice::NeedDiscovery => ResolveOutcome {
-            answer: NextHop::NeedDiscovery,
+        Ok(Choice::ByHost) => by_source_route(header, relays),
+        Ok(Choice::NeedDiscovery) => ResolveOutcome {
+            answer: Ok(NextHop::NeedDiscovery),
             header,
         },
-        Choice::Discard => ResolveOutcome {
-            answer: NextHop::Discard,
+        Ok(Choice::Discard) => ResolveOutcome {
+            answer: Ok(NextHop::Discard),
             header,
         },
     }

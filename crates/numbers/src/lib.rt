@@ -1,7 +1,7 @@
 // Calls and answers as numbers: arguments read from a slice, an answer's values put one after another.
 #![tactic(auto)]
 
-ghost use Rattle.std.specs.Prelude.{◌≡◌, [], ◌%◌, min};
+ghost use Rattle.std.specs.Prelude.{◌≡◌, [], ◌%◌};
 ghost use Rattle.numbers.specs.Said.{ok, bad, refused_by, flag_number, empty, pushed, pushed_all, spoken};
 ghost use Rattle.numbers.specs.Read.{number_at, byte_at, short_at, counter_at, flag_at, nwk_at, eui64_at};
 
@@ -19,13 +19,6 @@ pub struct Numbers {
 pub struct Answer {
     pub kind: u8,
     pub numbers: Numbers,
-}
-
-// The smaller of two counts.
-pub fn at_most(n: usize, most: usize) -> usize
-    ensures { result ≡ min n most }
-{
-    if n < most { n } else { most }
 }
 
 // No number.
@@ -57,10 +50,8 @@ pub fn push_each(n: Numbers, xs: &[u64]) -> Numbers
     ensures { result ≡ pushed_all n xs.now }
 {
     let mut m = n;
-    let mut i: usize = 0;
-    while i < xs.len() {
-        m = push(m, xs[i]);
-        i += 1;
+    for x in xs {
+        m = push(m, *x);
     }
     m
 }
@@ -69,7 +60,7 @@ pub fn push_each(n: Numbers, xs: &[u64]) -> Numbers
 pub fn flag_number(b: bool) -> u64
     ensures { result ≡ flag_number b }
 {
-    if b { 1 } else { 0 }
+    u64::from(b)
 }
 
 // A call that is answered with numbers.
@@ -99,7 +90,7 @@ pub fn refused(why: Refusal) -> Answer
     ensures { result ≡ spoken (refused_by why) }
 {
     let n = none();
-    let numbers = push(n, why.number() as u64);
+    let numbers = push(n, u64::from(why.number()));
     Answer { kind: 1, numbers }
 }
 
@@ -115,10 +106,7 @@ pub fn no_call() -> Answer
 pub fn at(args: &[u64], i: usize) -> u64
     ensures { result ≡ number_at args.now i }
 {
-    if i < args.len() {
-        return args[i];
-    }
-    0
+    args.get(i).copied().unwrap_or(0)
 }
 
 // The byte at a place.

@@ -1,22 +1,20 @@
 -- A list gone through, as rows and lists: what one address does by what stands under it, lists that grow by one at most, and one more in an array
 -- with room as one more in its list.
+use Rattle.std.specs.Prelude.{Option, Some, None}
 use Prim.Native.Nat.{ℕ, ◌+◌, ◌<◌, ◌≤◌}
 use native.Mathlib.Omega.{arith}
 use mathlib.Core.Bool.{Bool, true, false, cond, ◌&&◌}
 use mathlib.Core.List.{List, [], ◌∷◌, ◌++◌}
-use mathlib.Core.Option.{Option, none, some}
 use mathlib.Core.Path.{◌≡◌, sym, ap}
 use lib.ListN.{length, length-append}
 use Rattle.types.specs.declared.Eui64.{Eui64}
 use Rattle.standard.specs.Ordered.{lookup}
 use Rattle.flat_map.proofs.Query.{push-pad}
 use Rattle.neighbor_table.specs.declared.NeighborEntry.{NeighborEntry}
-use Rattle.neighbor_table.specs.declared.NeighborLookup.{NeighborLookup}
 use Rattle.neighbor_table.specs.Entry.{neighbor_key, is_end_device}
-use Rattle.neighbor_table.specs.Lookup.{looked}
 use Rattle.neighbor_queries.specs.declared.Child.{Child}
 use Rattle.neighbor_queries.specs.Lists.{no_name, no_child, eui_list, child_list, one_more_eui, one_more_child}
-use Rattle.parent_annce.specs.Settle.{Settling, is_here, claim, drop_one, settle_in, settle_one}
+use Rattle.parent_annce.specs.Settle.{Settling, claim, drop_one, settle_in, settle_one}
 
 pub one-more-eui : (xs : List Eui64) (x : Eui64) → length xs < 64 → one_more_eui (eui_list xs) x ≡ eui_list (xs ++ (x ∷ []))
 unfolding eui_list
@@ -28,14 +26,14 @@ one-more-child xs x h = λ z. record { count = sym (length-append xs (x ∷ []))
 
 module _ (confirm : Bool) (eui64 : Eui64) (x : Settling) where
   -- no neighbour has the address, or one has it
-  pub settle-none : lookup neighbor_key eui64.0 x.rows ≡ none → settle_one confirm eui64 x ≡ x
+  pub settle-none : lookup neighbor_key eui64.0 x.rows ≡ None → settle_one confirm eui64 x ≡ x
   unfolding settle_one
-  settle-none q = ap (λ (o : Option NeighborEntry). settle_in confirm eui64 (looked o) x) q
+  settle-none q = ap (λ (o : Option NeighborEntry). settle_in confirm eui64 o x) q
 
-  pub settle-some : (e : NeighborEntry) → lookup neighbor_key eui64.0 x.rows ≡ some e
-      → settle_one confirm eui64 x ≡ cond (is_end_device e.device_type) (cond (confirm && e.keepalive_received) (claim eui64 x) (drop_one eui64 (record { found = true; entry = e }) x)) x
+  pub settle-some : (e : NeighborEntry) → lookup neighbor_key eui64.0 x.rows ≡ Some e
+      → settle_one confirm eui64 x ≡ cond (is_end_device e.device_type) (cond (confirm && e.keepalive_received) (claim eui64 x) (drop_one eui64 e x)) x
   unfolding settle_one
-  settle-some e q = ap (λ (o : Option NeighborEntry). settle_in confirm eui64 (looked o) x) q
+  settle-some e q = ap (λ (o : Option NeighborEntry). settle_in confirm eui64 o x) q
 
 -- lists of no more than i
 pub record Few (i : ℕ) (x : Settling) : Type 0 where
@@ -44,20 +42,24 @@ pub record Few (i : ℕ) (x : Settling) : Type 0 where
 
 pub step-few : (confirm : Bool) (eui64 : Eui64) (x : Settling) (i : ℕ) → Few i x → Few (i + 1) (settle_one confirm eui64 x)
 unfolding settle_one
-step-few confirm eui64 x i h = go (looked (lookup neighbor_key eui64.0 x.rows)) where
+step-few confirm eui64 x i h = go (lookup neighbor_key eui64.0 x.rows) where
+  stayed-few : Few (i + 1) x
+  stayed-few = record { claims = omega (arith, h.claims); removals = omega (arith, h.removals) }
+
   claimed-few : Few (i + 1) (claim eui64 x)
   claimed-few = record { claims = omega (arith, h.claims, length-append x.claimed (eui64 ∷ [])); removals = omega (arith, h.removals) }
 
-  dropped-few : (l : NeighborLookup) → Few (i + 1) (drop_one eui64 l x)
-  dropped-few l = record {
+  dropped-few : (e : NeighborEntry) → Few (i + 1) (drop_one eui64 e x)
+  dropped-few e = record {
     claims = omega (arith, h.claims);
-    removals = omega (arith, h.removals, length-append x.removed (record { eui64 = eui64; network_address = l.entry.network_address } ∷ []));
+    removals = omega (arith, h.removals, length-append x.removed (record { eui64 = eui64; network_address = e.network_address } ∷ []));
   }
 
-  pick : (l : NeighborLookup) (a b : Bool) → Few (i + 1) (cond a (cond b (claim eui64 x) (drop_one eui64 l x)) x)
-  pick l true true = claimed-few
-  pick l true false = dropped-few l
-  pick l false b = record { claims = omega (arith, h.claims); removals = omega (arith, h.removals) }
+  pick : (e : NeighborEntry) (a b : Bool) → Few (i + 1) (cond a (cond b (claim eui64 x) (drop_one eui64 e x)) x)
+  pick e true true = claimed-few
+  pick e true false = dropped-few e
+  pick e false b = stayed-few
 
-  go : (l : NeighborLookup) → Few (i + 1) (settle_in confirm eui64 l x)
-  go l = pick l (is_here l) (confirm && l.entry.keepalive_received)
+  go : (o : Option NeighborEntry) → Few (i + 1) (settle_in confirm eui64 o x)
+  go None = stayed-few
+  go (Some e) = pick e (is_end_device e.device_type) (confirm && e.keepalive_received)

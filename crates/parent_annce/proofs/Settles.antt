@@ -1,8 +1,9 @@
 -- What an address does is what its verdict says, and each way of the code leaves it; the rest of a list, done from here, gives what the whole does.
+use Rattle.std.specs.Prelude.{Result, Ok, Err}
 use Prim.Native.Nat.{ℕ, ◌+◌, ◌<◌, ◌≤◌}
 use native.Mathlib.Omega.{arith}
 use mathlib.Core.Bool.{Bool, true, false, cond, ◌&&◌}
-use mathlib.Core.List.{List, [], ◌∷◌}
+use mathlib.Core.List.{List, ◌∷◌}
 use mathlib.Core.Path.{◌≡◌, refl, sym, ap, ◌∙◌, subst}
 use borrow.Author.Tests.{lt-ltb, le-ltb}
 use lib.Dec.{ltb}
@@ -10,8 +11,6 @@ use lib.ListN.{take, drop, get_or}
 use Rattle.types.specs.declared.Eui64.{Eui64}
 use Rattle.types.specs.declared.Refusal.TheVariants.{ListTooLong}
 use Rattle.standard.specs.Ordered.{lookup, remove}
-use Rattle.flat_map.specs.declared.Place.{Place}
-use Rattle.flat_map.specs.declared.Place.TheVariants.{Found, Missing}
 use Rattle.flat_map.specs.Seek.{place_of}
 use Rattle.neighbor_table.specs.declared.NeighborEntry.{NeighborEntry}
 use Rattle.neighbor_table.specs.Entry.{neighbor_key, is_end_device}
@@ -23,7 +22,6 @@ use Rattle.neighbor_columns.proofs.Rows.{found-row, missing-row, taken_out, remo
 use Rattle.neighbor_queries.specs.declared.ChildList.{ChildList}
 use Rattle.neighbor_queries.specs.declared.Eui64List.{Eui64List}
 use Rattle.neighbor_queries.specs.Lists.{eui_list, child_list, one_more_eui, one_more_child}
-use Rattle.neighbor_queries.specs.declared.Answer.TheVariants.{Done, Refused}
 use Rattle.parent_annce.specs.Settle.{Settling, claim, drop_one, settle_one, settle_all, start}
 use Rattle.parent_annce.proofs.Rows.{one-more-eui, one-more-child, settle-none, settle-some, Few, step-few}
 use Rattle.parent_annce.specs.declared.Progress.{Progress}
@@ -32,33 +30,33 @@ use Rattle.parent_annce.specs.declared.Verdict.TheVariants.{Away, Claimed, Goes}
 use Rattle.parent_annce.specs.Rules.{verdict_at, child, Reaches, Advances, list_answer, settled_by}
 
 -- the place of an address that goes is where it was found
-pub goes-found : (confirm : Bool) (links : List ℕ) (i : ℕ) (p : Place) → Goes i ≡ verdict_at confirm links p → Found i ≡ p
-goes-found confirm links i (Found j) e = go (is_end_device (link_of (get_or links j 0)).device_type) (confirm && (link_of (get_or links j 0)).keepalive_received) e where
-  go : (a b : Bool) → Goes i ≡ cond a (cond b Claimed (Goes j)) Away → ◌≡◌ {A = Place} (Found i) (Found j)
+pub goes-found : (confirm : Bool) (links : List ℕ) (i : ℕ) (p : Result ℕ ℕ) → Goes i ≡ verdict_at confirm links p → Ok i ≡ p
+goes-found confirm links i (Ok j) e = go (is_end_device (link_of (get_or links j 0)).device_type) (confirm && (link_of (get_or links j 0)).keepalive_received) e where
+  go : (a b : Bool) → Goes i ≡ cond a (cond b Claimed (Goes j)) Away → ◌≡◌ {A = (Result ℕ ℕ)} (Ok i) (Ok j)
   go true true h = absurd (let z : ◌≡◌ {A = ℕ} 0 1 = cc in omega arith)
   go true false h = cc
   go false b h = absurd (let z : ◌≡◌ {A = ℕ} 0 1 = cc in omega arith)
-goes-found confirm links i (Missing j) e = absurd (let z : ◌≡◌ {A = ℕ} 0 1 = cc in omega arith)
+goes-found confirm links i (Err j) e = absurd (let z : ◌≡◌ {A = ℕ} 0 1 = cc in omega arith)
 
 module _ (t : NeighborTable) (w : WellFormed t) (confirm : Bool) (eui64 : Eui64) where
   -- where the address stands
-  abbrev place : Place
+  abbrev place : Result ℕ ℕ
   place = place_of (take t.count t.keys) eui64.0
 
   -- what a verdict does
   abbrev done : Verdict → Settling → Settling
   done Away x = x
   done Claimed x = claim eui64 x
-  done (Goes i) x = drop_one eui64 (record { found = true; entry = row_at t i }) x
+  done (Goes i) x = drop_one eui64 (row_at t i) x
 
-  settled : (x : Settling) → rows_of t ≡ x.rows → (p : Place) → p ≡ place → settle_one confirm eui64 x ≡ done (verdict_at confirm t.links p) x
+  settled : (x : Settling) → rows_of t ≡ x.rows → (p : Result ℕ ℕ) → p ≡ place → settle_one confirm eui64 x ≡ done (verdict_at confirm t.links p) x
   unfolding neighbor_from
-  settled x q (Missing i) e = settle-none confirm eui64 x (sym (ap (lookup neighbor_key eui64.0) q) ∙ missing-row t w.formed eui64.0 i e)
-  settled x q (Found i) e =
+  settled x q (Err i) e = settle-none confirm eui64 x (sym (ap (lookup neighbor_key eui64.0) q) ∙ missing-row t w.formed eui64.0 i e)
+  settled x q (Ok i) e =
       settle-some confirm eui64 x (row_at t i) (sym (ap (lookup neighbor_key eui64.0) q) ∙ found-row t w.formed eui64.0 i e)
       ∙ pick (is_end_device (link_of (get_or t.links i 0)).device_type) (confirm && (link_of (get_or t.links i 0)).keepalive_received)
     where
-      pick : (a b : Bool) → cond a (cond b (claim eui64 x) (drop_one eui64 (record { found = true; entry = row_at t i }) x)) x ≡ done (cond a (cond b Claimed (Goes i)) Away) x
+      pick : (a b : Bool) → cond a (cond b (claim eui64 x) (drop_one eui64 (row_at t i) x)) x ≡ done (cond a (cond b Claimed (Goes i)) Away) x
       pick true true = refl
       pick true false = refl
       pick false b = refl
@@ -125,21 +123,18 @@ module _ (confirm : Bool) (list : List Eui64) (xs : List NeighborEntry) (t : Nei
     rest = sym (ap (λ (l : List Eui64). settle_all confirm l h.now) next) ∙ h.rest;
   }
 
-  pub settles-all : drop i list ≡ [] → Reaches t s.claimed s.removed (settle_all confirm list (start xs))
-  settles-all none = subst (Reaches t s.claimed s.removed) (sym (ap (λ (l : List Eui64). settle_all confirm l h.now) none) ∙ h.rest) h.reaches
-
 -- by the length of the list
 module _ (confirm : Bool) (list : Eui64List) (xs : List NeighborEntry) (t : NeighborTable) (claimed : Eui64List) (removed : ChildList) where
   abbrev left : Bool → Settling
   left b = cond b (start xs) (settle_all confirm (take list.count list.addresses) (start xs))
 
   by_length : (b : Bool) → ltb 64 list.count ≡ b → Reaches t claimed removed (left b)
-      → (cond b (Refused ListTooLong) Done ≡ list_answer list) × Reaches t claimed removed (settled_by confirm list xs)
-  by_length b e r = (ap (λ (x : Bool). cond x (Refused ListTooLong) Done) (sym e), subst (λ (x : Bool). Reaches t claimed removed (left x)) (sym e) r)
+      → (cond b (Err ListTooLong) (Ok tt) ≡ list_answer list) × Reaches t claimed removed (settled_by confirm list xs)
+  by_length b e r = (ap (λ (x : Bool). cond x (Err ListTooLong) (Ok tt)) (sym e), subst (λ (x : Bool). Reaches t claimed removed (left x)) (sym e) r)
 
-  pub too_long : 64 < list.count → Reaches t claimed removed (start xs) → (Refused ListTooLong ≡ list_answer list) × Reaches t claimed removed (settled_by confirm list xs)
+  pub too_long : 64 < list.count → Reaches t claimed removed (start xs) → (Err ListTooLong ≡ list_answer list) × Reaches t claimed removed (settled_by confirm list xs)
   too_long h r = by_length true (lt-ltb 64 list.count h) r
 
   pub gone-through : list.count ≤ 64 → Reaches t claimed removed (settle_all confirm (take list.count list.addresses) (start xs))
-      → (Done ≡ list_answer list) × Reaches t claimed removed (settled_by confirm list xs)
+      → ((Ok tt) ≡ list_answer list) × Reaches t claimed removed (settled_by confirm list xs)
   gone-through h r = by_length false (le-ltb 64 list.count h) r

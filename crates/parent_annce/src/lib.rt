@@ -10,8 +10,7 @@ ghost use Rattle.neighbor_queries.specs.Lists.{eui_list, child_list, one_more_eu
 ghost use Rattle.parent_annce.specs.Settle.{settle_all, start};
 ghost use Rattle.parent_annce.specs.Rules.{judged, verdict_at, child, Reaches, Advances, list_answer, settled_by};
 
-use flat_map::Place;
-use neighbor_queries::{Answer, Child, ChildList, Eui64List};
+use neighbor_queries::{Child, ChildList, Eui64List};
 use types::{Eui64, Nwk, Refusal};
 
 // How far a list of addresses has been gone through: how many neighbours are left, those claimed back, and those that went.
@@ -33,7 +32,7 @@ pub enum Verdict {
 // Whether the list was gone through, the children that went, and how many neighbours there are after.
 #[derive(Drop)]
 pub struct Removed {
-    pub answer: Answer,
+    pub answer: Result<(), Refusal>,
     pub removed: ChildList,
     pub count: usize,
 }
@@ -41,7 +40,7 @@ pub struct Removed {
 // Whether the list was gone through, the children to claim back, those that went, and how many neighbours there are after.
 #[derive(Drop)]
 pub struct Announced {
-    pub answer: Answer,
+    pub answer: Result<(), Refusal>,
     pub claimed: Eui64List,
     pub removed: ChildList,
     pub count: usize,
@@ -70,8 +69,8 @@ fn decide(keys: &[u64], links: &[u64], count: usize, confirm: bool, eui64: Eui64
 {
     let place = neighbor_columns::place_of(keys, count, eui64);
     match place {
-        Place::Found(i) => judge(links[i], confirm, i),
-        Place::Missing(_) => Verdict::Away,
+        Ok(i) => judge(links[i], confirm, i),
+        Err(_) => Verdict::Away,
     }
 }
 
@@ -161,7 +160,6 @@ fn settle(
     requires { WellFormed (in_columns keys.old nwks.old links.old counts.old deadlines.old periods.old heard.old added.old beacons.old bytes.old count) × (list.count ≤ 64) }
     ensures { Reaches (in_columns keys.new nwks.new links.new counts.new deadlines.new periods.new heard.new added.new beacons.new bytes.new result.count) result.claimed result.removed (settle_all confirm (take list.count list.addresses) (start (rows_of (in_columns keys.old nwks.old links.old counts.old deadlines.old periods.old heard.old added.old beacons.old bytes.old count)))) }
 {
-    let n = list.count;
     let claimed = Eui64List::new();
     let removed = ChildList::new();
     let mut s = Progress {
@@ -169,14 +167,12 @@ fn settle(
         claimed,
         removed,
     };
-    let mut i: usize = 0;
-    while i < n {
+    for i in 0..list.count {
         let eui64 = list.addresses[i];
         s = step(
             keys, nwks, links, counts, deadlines, periods, heard, added, beacons, bytes, s,
             confirm, eui64,
         );
-        i += 1;
     }
     s
 }
@@ -205,7 +201,7 @@ pub fn remove_claimed_children(
     if 64 < claimed.count {
         let removed = ChildList::new();
         return Removed {
-            answer: Answer::Refused(Refusal::ListTooLong),
+            answer: Err(Refusal::ListTooLong),
             removed,
             count,
         };
@@ -216,7 +212,7 @@ pub fn remove_claimed_children(
     );
     let removed = s.removed;
     Removed {
-        answer: Answer::Done,
+        answer: Ok(()),
         removed,
         count: s.count,
     }
@@ -248,7 +244,7 @@ pub fn process_parent_annce(
         let claimed = Eui64List::new();
         let removed = ChildList::new();
         return Announced {
-            answer: Answer::Refused(Refusal::ListTooLong),
+            answer: Err(Refusal::ListTooLong),
             claimed,
             removed,
             count,
@@ -261,7 +257,7 @@ pub fn process_parent_annce(
     let claimed = s.claimed;
     let removed = s.removed;
     Announced {
-        answer: Answer::Done,
+        answer: Ok(()),
         claimed,
         removed,
         count: s.count,

@@ -1,10 +1,10 @@
 -- The record table under the laws of columns: the test tells well-formedness, a well-formed table is the table of its entries,
 -- and entries that fit, each with few relays, are the entries of their table, and still fit after each step.
+use Rattle.std.specs.Prelude.{Some, None, Ok, Err}
 use Prim.Native.Nat.{ℕ, ◌+◌, ◌-◌, ◌<◌, ◌≤◌}
 use native.Mathlib.Omega.{arith}
 use mathlib.Core.Bool.{Bool, ◌&&◌}
 use mathlib.Core.List.{List, [], ◌∷◌, map}
-use mathlib.Core.Option.{none, some}
 use mathlib.Core.Path.{◌≡◌, refl, sym}
 use lib.ListN.{length, take, get_or, set}
 use lib.Seq.{take_all}
@@ -13,7 +13,6 @@ use Rattle.standard.specs.Ordered.{lookup, put, remove, keep, count_with}
 use Rattle.standard.specs.Record.{record_key}
 use Rattle.standard.specs.Tells.{Tells}
 use Rattle.standard.proofs.Tells.{tells-one, tells_both, tells-so}
-use Rattle.flat_map.specs.declared.Place.TheVariants.{Found, Missing}
 use Rattle.flat_map.specs.Rows.{pad}
 use Rattle.flat_map.specs.Seek.{place_of}
 use Rattle.flat_map.specs.Shift.{shift_in, shift_out}
@@ -89,24 +88,24 @@ module _ (t : RecordTable) (w : WellFormed t) where
   row-at = view.row_is 64 2 record_key blank_record record_of record_numbers Clean InRange codec t.keys (t.lengths ∷ []) t.count (table-sound t w)
 
   -- what the place of a destination says of the entries
-  pub place-within : (k i : ℕ) → Found i ≡ place_of (take t.count t.keys) k → i < t.count
+  pub place-within : (k i : ℕ) → Ok i ≡ place_of (take t.count t.keys) k → i < t.count
   place-within = rows.found_below 64 2 record_key blank_record record_of record_numbers Clean InRange codec t.keys (t.lengths ∷ []) t.count (table-sound t w)
 
-  pub found-key : (k i : ℕ) → Found i ≡ place_of (take t.count t.keys) k → get_or t.keys i 0 ≡ k
+  pub found-key : (k i : ℕ) → Ok i ≡ place_of (take t.count t.keys) k → get_or t.keys i 0 ≡ k
   found-key = rows.found-key 64 2 record_key blank_record record_of record_numbers Clean InRange codec t.keys (t.lengths ∷ []) t.count (table-sound t w)
 
-  pub found-row : (k i : ℕ) → Found i ≡ place_of (take t.count t.keys) k → lookup record_key k (rows_of t) ≡ some (record_in (get_or t.keys i 0) (get_or t.lengths i 0))
+  pub found-row : (k i : ℕ) → Ok i ≡ place_of (take t.count t.keys) k → lookup record_key k (rows_of t) ≡ Some (record_in (get_or t.keys i 0) (get_or t.lengths i 0))
   found-row = rows.found 64 2 record_key blank_record record_of record_numbers Clean InRange codec t.keys (t.lengths ∷ []) t.count (table-sound t w)
 
-  pub missing-row : (k i : ℕ) → Missing i ≡ place_of (take t.count t.keys) k → lookup record_key k (rows_of t) ≡ none
+  pub missing-row : (k i : ℕ) → Err i ≡ place_of (take t.count t.keys) k → lookup record_key k (rows_of t) ≡ None
   missing-row = rows.missing 64 2 record_key blank_record record_of record_numbers Clean InRange codec t.keys (t.lengths ∷ []) t.count (table-sound t w)
 
-  pub missing-within : (k i : ℕ) → Missing i ≡ place_of (take t.count t.keys) k → i ≤ t.count
+  pub missing-within : (k i : ℕ) → Err i ≡ place_of (take t.count t.keys) k → i ≤ t.count
   missing-within = flat.missing-within 64 record_key blank_record t.keys (entries record_of 64 (t.keys ∷ t.lengths ∷ [])) t.count
       (rows.table 64 2 record_key blank_record record_of record_numbers Clean InRange codec t.keys (t.lengths ∷ []) t.count (table-sound t w))
 
   -- an entry that is put in finds a place
-  pub free : (k i : ℕ) → Missing i ≡ place_of (take t.count t.keys) k → count_with record_key k (rows_of t) ≤ 64 → t.count < 64
+  pub free : (k i : ℕ) → Err i ≡ place_of (take t.count t.keys) k → count_with record_key k (rows_of t) ≤ 64 → t.count < 64
   free k i p room = omega (arith, room, many, count-with-missing record_key k (rows_of t) (missing-row k i p))
 
   -- the keys in use are those of the entries
@@ -115,17 +114,17 @@ module _ (t : RecordTable) (w : WellFormed t) where
       (rows.table 64 2 record_key blank_record record_of record_numbers Clean InRange codec t.keys (t.lengths ∷ []) t.count (table-sound t w))
 
   -- an entry stored over that of its destination, put in where there is none, and taken out
-  pub stored-over : (e : RecordEntry) → InRange e → (i : ℕ) → Found i ≡ place_of (take t.count t.keys) (record_key e)
+  pub stored-over : (e : RecordEntry) → InRange e → (i : ℕ) → Ok i ≡ place_of (take t.count t.keys) (record_key e)
       → Holds (in_columns t.keys (set t.lengths i e.relay_count) t.count) (put record_key e (rows_of t))
   stored-over e r i p = let h = rows.over-put 64 2 record_key blank_record record_of record_numbers Clean InRange codec t.keys (t.lengths ∷ []) t.count (table-sound t w) e r i p in
       record { formed = sound-formed (in_columns t.keys (set t.lengths i e.relay_count) t.count) h.0; rows = h.1 }
 
-  pub put_in : (e : RecordEntry) → InRange e → (i : ℕ) → Missing i ≡ place_of (take t.count t.keys) (record_key e) → t.count < 64
+  pub put_in : (e : RecordEntry) → InRange e → (i : ℕ) → Err i ≡ place_of (take t.count t.keys) (record_key e) → t.count < 64
       → Holds (in_columns (shift_in i (record_key e) t.keys) (shift_in i e.relay_count t.lengths) (t.count + 1)) (put record_key e (rows_of t))
   put_in e r i p l = let h = rows.in-put 64 2 record_key blank_record record_of record_numbers Clean InRange codec t.keys (t.lengths ∷ []) t.count (table-sound t w) e r i p l in
       record { formed = sound-formed (in_columns (shift_in i (record_key e) t.keys) (shift_in i e.relay_count t.lengths) (t.count + 1)) h.0; rows = h.1 }
 
-  pub taken_out : (k i : ℕ) → Found i ≡ place_of (take t.count t.keys) k
+  pub taken_out : (k i : ℕ) → Ok i ≡ place_of (take t.count t.keys) k
       → Holds (in_columns (shift_out i 0 t.keys) (shift_out i 0 t.lengths) (t.count - 1)) (remove record_key k (rows_of t))
   taken_out k i p = let h = rows.out-key 64 2 record_key blank_record record_of record_numbers Clean InRange codec t.keys (t.lengths ∷ []) t.count (table-sound t w) i k p in
       record { formed = sound-formed (in_columns (shift_out i 0 t.keys) (shift_out i 0 t.lengths) (t.count - 1)) h.0; rows = h.1 }

@@ -2,7 +2,6 @@
 -- Document 01, "Capacities and clock": "route records 64, each of at most 32 relays"; "Well formed".
 -- Assumes nothing.
 use Rattle.std.specs.Prelude.{ℕ, Bool, ◌&&◌, List, [], ◌∷◌, map, ◌≡◌, length}
-use Rattle.std.proofs.Math.Option.{Option, none, some}
 use Rattle.standard.specs.declared.RecordEntry.{RecordEntry}
 use Rattle.standard.specs.Record.{record_key}
 use Rattle.standard.specs.Route.{nwk}
@@ -11,8 +10,6 @@ use Rattle.flat_map.specs.Table.{Each, Fit}
 use Rattle.columns.specs.Columns.{Ordered, ordered, Under, are_under}
 use Rattle.columns.specs.Table.{rows_in}
 use Rattle.record_table.specs.Codec.{record_of, length_end, InRange}
-use Rattle.record_table.specs.declared.RecordLookup.{RecordLookup}
-use Rattle.record_table.specs.declared.RecordLookup.TheVariants.{Found, Missing}
 
 pub record RecordTable : Type 0 where
   pub keys : List ℕ
@@ -56,8 +53,3 @@ pub record Fits (xs : List RecordEntry) : Type 0 where
 pub record Holds (t : RecordTable) (xs : List RecordEntry) : Type 0 where
   pub formed : WellFormed t
   pub rows : rows_of t ≡ xs
-
--- a look-up's answer
-abbrev pub looked : Option RecordEntry → RecordLookup
-looked none = Missing
-looked (some e) = Found e

@@ -3,22 +3,13 @@
 
 ghost use Rattle.std.specs.Prelude.{◌≡◌, ◌+◌, ◌-◌, ◌≤◌, ◌<◌, length, take, get_or};
 ghost use Rattle.flat_map.specs.Seek.{place_of};
-ghost use Rattle.flat_map.specs.declared.Place.TheVariants.{Found};
 ghost use Rattle.standard.specs.Ordered.{put, remove, count_with};
 ghost use Rattle.standard.specs.Record.{record_key};
 ghost use Rattle.record_table.specs.Codec.{record_in};
 ghost use Rattle.record_table.specs.Table.{in_columns, WellFormed, well_formed, rows_of, Holds};
 
-use flat_map::Place;
 use standard::RecordEntry;
 use types::Nwk;
-
-// What stands in a place.
-#[derive(Drop)]
-pub enum RecordLookup {
-    Found(RecordEntry),
-    Missing,
-}
 
 // Whether columns are a well-formed table.
 pub fn well_formed(keys: &[u16], lengths: &[u8], count: usize) -> bool
@@ -33,19 +24,24 @@ pub fn well_formed(keys: &[u16], lengths: &[u8], count: usize) -> bool
     if 64 < count {
         return false;
     }
-    let up = columns::rising16(keys, count);
-    let no_keys = columns::zero_from16(keys, count);
-    let no_lengths = columns::zero_from8(lengths, count);
-    let few = columns::under8(lengths, 33);
+    let up = columns::rising(keys, count);
+    let no_keys = columns::zero_from(keys, count);
+    let no_lengths = columns::zero_from(lengths, count);
+    let few = columns::under(lengths, 33);
     up & no_keys & no_lengths & few
 }
 
 // Where the record of a destination stands, or would stand.
-pub fn place_of(keys: &[u16], lengths: &[u8], count: usize, destination: Nwk) -> Place
+pub fn place_of(
+    keys: &[u16],
+    lengths: &[u8],
+    count: usize,
+    destination: Nwk,
+) -> Result<usize, usize>
     requires { WellFormed (in_columns keys.now lengths.now count) }
     ensures { result ≡ place_of (take count keys.now) destination.0 }
 {
-    columns::index16(keys, count, destination.0)
+    columns::index_of(keys, count, destination.0)
 }
 
 // The entry in a place.
@@ -64,7 +60,7 @@ pub fn put_at(
     keys: &mut [u16],
     lengths: &mut [u8],
     count: usize,
-    place: Place,
+    place: Result<usize, usize>,
     e: RecordEntry,
 ) -> usize
     requires { WellFormed (in_columns keys.old lengths.old count) × (place ≡ place_of (take count keys.old) (record_key e)) × (count_with record_key (record_key e) (rows_of (in_columns keys.old lengths.old count)) ≤ 64) × (e.relay_count ≤ 32) }
@@ -72,13 +68,13 @@ pub fn put_at(
         (put record_key e (rows_of (in_columns keys.old lengths.old count))) }
 {
     match place {
-        Place::Found(i) => {
+        Ok(i) => {
             lengths[i] = e.relay_count;
             count
         }
-        Place::Missing(i) => {
-            columns::shift16(keys, i, e.destination.0);
-            columns::shift8(lengths, i, e.relay_count);
+        Err(i) => {
+            columns::shift_in(keys, i, e.destination.0);
+            columns::shift_in(lengths, i, e.relay_count);
             count + 1
         }
     }
@@ -92,11 +88,11 @@ pub fn remove_at(
     i: usize,
     destination: Nwk,
 ) -> usize
-    requires { WellFormed (in_columns keys.old lengths.old count) × (Found i ≡ place_of (take count keys.old) destination.0) }
+    requires { WellFormed (in_columns keys.old lengths.old count) × (Ok i ≡ place_of (take count keys.old) destination.0) }
     ensures { Holds (in_columns keys.new lengths.new result)
         (remove record_key destination.0 (rows_of (in_columns keys.old lengths.old count))) }
 {
-    columns::out16(keys, i);
-    columns::out8(lengths, i);
+    columns::shift_out(keys, i, 0);
+    columns::shift_out(lengths, i, 0);
     count - 1
 }

@@ -1,4 +1,5 @@
 -- The header is the given one, but for the bit, exactly where the answer is yes: the answer and the header come out of the same tests.
+use Rattle.std.specs.Prelude.{Ok}
 use Prim.Native.Nat.{ℕ}
 use native.Mathlib.Omega.{arith}
 use mathlib.Core.Bool.{Bool, true, false, cond, ◌&&◌}
@@ -7,7 +8,6 @@ use mathlib.Core.Path.{◌≡◌, refl, sym, ap, ◌∙◌}
 use Rattle.types.specs.declared.Refusal.TheVariants.{StateIllFormed, ListTooLong}
 use Rattle.neighbor_table.specs.declared.NeighborEntry.{NeighborEntry}
 use Rattle.neighbors.specs.declared.Neighbors.{Neighbors}
-use Rattle.neighbor_queries.specs.declared.Truth.TheVariants.{Is}
 use Rattle.neighbors.specs.State.{well_formed, rows}
 use Rattle.frame.specs.declared.NwkHeader.{NwkHeader}
 use Rattle.frame.specs.Header.{carries_long, initiator_cleared}
@@ -49,13 +49,13 @@ abbrev tested : NwkHeader → Bool → Bool → Bool → ClearOutcome
 tested h a b c = cond a (cond b (refused ListTooLong h) (cond c (told true (initiator_cleared h)) (told false h))) (refused StateIllFormed h)
 
 module _ (h : NwkHeader) where
-  yes-cleared : (a b c : Bool) → (tested h a b c).answer ≡ Is true → (tested h a b c).header ≡ initiator_cleared h
+  yes-cleared : (a b c : Bool) → (tested h a b c).answer ≡ Ok true → (tested h a b c).header ≡ initiator_cleared h
   yes-cleared true false true e = refl
   yes-cleared true false false e = let z : ◌≡◌ {A = ℕ} 0 1 = cc in absurd (omega arith)
   yes-cleared true true c e = let z : ◌≡◌ {A = ℕ} 0 1 = cc in absurd (omega arith)
   yes-cleared false b c e = let z : ◌≡◌ {A = ℕ} 0 1 = cc in absurd (omega arith)
 
-  else-kept : (a b c : Bool) → ((tested h a b c).answer ≡ Is true → ⊥) → (tested h a b c).header ≡ h
+  else-kept : (a b c : Bool) → ((tested h a b c).answer ≡ Ok true → ⊥) → (tested h a b c).header ≡ h
   else-kept true false true off = absurd (off refl)
   else-kept true false false off = refl
   else-kept true true c off = refl
@@ -65,10 +65,10 @@ module _ (n : Neighbors) (h : NwkHeader) where
   abbrev applies : Bool
   applies = h.frame_control.end_device_initiator && is_end_device_child (rows n) h.source
 
-  pub cleared-where-told : (cleared n h).answer ≡ Is true → (cleared n h).header ≡ initiator_cleared h
+  pub cleared-where-told : (cleared n h).answer ≡ Ok true → (cleared n h).header ≡ initiator_cleared h
   unfolding cleared cleared_on
   cleared-where-told e = yes-cleared h (well_formed n) (carries_long h) applies e
 
-  pub kept-elsewhere : ((cleared n h).answer ≡ Is true → ⊥) → (cleared n h).header ≡ h
+  pub kept-elsewhere : ((cleared n h).answer ≡ Ok true → ⊥) → (cleared n h).header ≡ h
   unfolding cleared cleared_on
   kept-elsewhere off = else-kept h (well_formed n) (carries_long h) applies off

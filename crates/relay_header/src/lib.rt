@@ -7,14 +7,14 @@ ghost use Rattle.neighbor_queries_lent.specs.Read.{InUse, lent_words};
 ghost use Rattle.relay_header.specs.Relayed.{told, refused, cleared_on, cleared};
 
 use frame::NwkHeader;
-use neighbor_queries::{Filter, Truth};
+use neighbor_queries::Filter;
 use neighbors::Neighbors;
 use types::Refusal;
 
 // Whether the bit was cleared, and the header after the call.
 #[derive(Drop)]
 pub struct ClearOutcome {
-    pub answer: Truth,
+    pub answer: Result<bool, Refusal>,
     pub header: NwkHeader,
 }
 
@@ -23,7 +23,7 @@ fn tell(answer: bool, header: NwkHeader) -> ClearOutcome
     ensures { result ≡ told answer header }
 {
     ClearOutcome {
-        answer: Truth::Is(answer),
+        answer: Ok(answer),
         header,
     }
 }
@@ -33,7 +33,7 @@ fn refuse(refusal: Refusal, header: NwkHeader) -> ClearOutcome
     ensures { result ≡ refused refusal header }
 {
     ClearOutcome {
-        answer: Truth::Refused(refusal),
+        answer: Err(refusal),
         header,
     }
 }

@@ -4,13 +4,14 @@ use Prim.Native.Nat.{ℕ, zero, suc, ◌+◌, ◌-◌, ◌*◌, ◌<◌, ◌≤�
 use native.Mathlib.Nat.{not-suc-le-zero, eq-or-lt_of_le, le_of_suc-le-suc, mod-eq_of_lt}
 use native.Mathlib.Omega.{arith}
 use mathlib.Core.Bool.{Bool}
-use mathlib.Core.List.{List}
+use mathlib.Core.List.{List, ◌++◌}
 use mathlib.Core.Logic.{⊎_elim}
 use mathlib.Core.Path.{◌≡◌, sym, subst, ◌∙◌}
 use lib.Bits.{bit_and, bit_or, and_zero_r, and_le_l, and_le_r, and_mask, or_add_and}
 use lib.Dec.{eqb}
-use lib.ListN.{length, take, drop, get_or, set, length-take, length-set, get_or-eq_default}
-use lib.Seq.{get_or-take, get_or-drop, get_or-set_same, get_or-set_other}
+use lib.ListN.{length, take, drop, get_or, length-append, length-take, length-drop, get_or-append, get_or-eq_default}
+use lib.Seq.{length-take-le, get_or-take, get_or-drop}
+use Rattle.std.proofs.lemmas.List.{get_or-append_right}
 use Rattle.standard.specs.Tells.{Tells}
 use Rattle.standard.proofs.Tells.{yes-so, tells_both, tells-eq, tells-so}
 use Rattle.flat_map.specs.Table.{ZeroFrom}
@@ -115,36 +116,20 @@ module _ (lengths store : List ℕ) where
 
 -- a row marked as far as place j
 pub record Marking (old row mask over : List ℕ) (j : ℕ) : Type 0 where
-  pub small : j ≤ 32
   pub long : length over ≡ 32
   pub done : (k : ℕ) → k < j → get_or over k 0 ≡ bit_or (get_or old k 0) (bit_and (get_or row k 0) (get_or mask k 0))
   pub left : (k : ℕ) → j ≤ k → get_or over k 0 ≡ get_or old k 0
 
-module _ (old row mask over : List ℕ) (j : ℕ) (g : Marking old row mask over j) where
-  -- what is written at place j
-  abbrev pub added : ℕ
-  added = bit_or (get_or over j 0) (bit_and (get_or row j 0) (get_or mask j 0))
+-- zeros of which the part from place 32 on is filled
+pub masks-filled : (zeros ones : List ℕ) → length zeros ≡ 64 → ZeroFrom zeros 0 → length ones ≡ 32 → ((j : ℕ) → j < 32 → get_or ones j 0 ≡ 65535)
+    → Masks (take 32 zeros ++ (ones ++ drop (length zeros - 32) (drop 32 zeros)))
+masks-filled zeros ones h z l o = record {
+  long = length-append (take 32 zeros) (ones ++ rest) ∙ omega (arith, length-append ones rest, before, length-drop (length zeros - 32) (drop 32 zeros), length-drop 32 zeros);
+  none = λ j b. get_or-append (take 32 zeros) (ones ++ rest) 0 j (omega (arith, before)) ∙ get_or-take 32 zeros j 0 b ∙ z j (omega arith);
+  all = λ j b m. get_or-append_right (take 32 zeros) (ones ++ rest) 32 j 0 before b ∙ get_or-append ones rest 0 (j - 32) (omega arith) ∙ o (j - 32) (omega arith);
+} where
+  rest : List ℕ
+  rest = drop (length zeros - 32) (drop 32 zeros)
 
-  pub marking-more : j < 32 → Marking old row mask (set over j added) (j + 1)
-  marking-more h = record {
-    small = omega arith;
-    long = length-set over j added ∙ g.long;
-    done = λ k l. ⊎_elim (λ e. rw (e, get_or-set_same over j added 0 (omega (arith, g.long)), g.left j (omega arith))) (λ o. get_or-set_other over j k added 0 (λ e. omega arith) ∙ g.done k o) (eq-or-lt_of_le (omega arith));
-    left = λ k l. get_or-set_other over j k added 0 (λ e. omega arith) ∙ g.left k (omega arith);
-  }
-
-  pub marking-done : 32 ≤ j → Marked old row mask over
-  marking-done h = record { long = g.long; each = λ k l. g.done k (omega arith) }
-
--- the masks, of which those before place k stand
-pub record MasksTo (masks : List ℕ) (k : ℕ) : Type 0 where
-  pub long : length masks ≡ 64
-  pub none : (j : ℕ) → j < 32 → get_or masks j 0 ≡ 0
-  pub all : (j : ℕ) → 32 ≤ j → j < k → get_or masks j 0 ≡ 65535
-
-pub masks-more : (masks : List ℕ) (k : ℕ) → MasksTo masks k → 32 ≤ k → k < 64 → MasksTo (set masks k 65535) (k + 1)
-masks-more masks k r g h = record {
-  long = length-set masks k 65535 ∙ r.long;
-  none = λ j l. get_or-set_other masks k j 65535 0 (λ e. omega arith) ∙ r.none j l;
-  all = λ j b l. ⊎_elim (λ e. rw e (get_or-set_same masks k 65535 0 (omega (arith, r.long)))) (λ o. get_or-set_other masks k j 65535 0 (λ e. omega arith) ∙ r.all j b o) (eq-or-lt_of_le (omega arith));
-}
+  before : length (take 32 zeros) ≡ 32
+  before = length-take-le 32 zeros (omega arith)

@@ -1,16 +1,15 @@
--- A loop that moves numbers by a row leaves those passed where the shift of the rows has them and the others as they were,
--- and at its end the store is the shifted list of rows laid out.
+-- A copy that moves numbers by a row leaves them where the shift of the rows has them and the others as they were:
+-- the store is the shifted list of rows laid out.
+use Rattle.std.specs.Prelude.{Ok, Err}
 use Prim.Native.Nat.{ℕ, suc, ◌+◌, ◌-◌, ◌*◌, ◌<◌, ◌≤◌}
-use native.Mathlib.Nat.{eq-or-lt_of_le}
 use native.Mathlib.Omega.{arith}
 use mathlib.Core.List.{List, [], map}
-use mathlib.Core.Logic.{⊎_elim}
-use mathlib.Core.Path.{◌≡◌, refl, sym, ap, ◌∙◌}
-use lib.ListN.{length, get_or, set, length-set}
-use lib.Seq.{get_or-set_same, get_or-set_other}
+use mathlib.Core.Path.{◌≡◌, sym, ap, ◌∙◌}
+use lib.ListN.{length, get_or, set}
+use lib.Seq.{get_or-set_same}
+use Rattle.std.specs.List.{CopiedTo, SameBelow}
 use Rattle.types.specs.declared.Nwk.{Nwk}
 use Rattle.standard.specs.declared.RelayList.{RelayList}
-use Rattle.flat_map.specs.declared.Place.TheVariants.{Found, Missing}
 use Rattle.flat_map.specs.Shift.{shift_in, shift_out}
 use Rattle.flat_map.specs.Table.{Each}
 use Rattle.flat_map.proofs.Rows.{length-pad}
@@ -49,95 +48,46 @@ laid_out s rows places e = sym (flat_rows 64 s (omega arith)) ∙ ap flat e
 wide_at : (s : List ℕ) → length s ≡ 2048 → (r : ℕ) → r < 64 → length (row_at r s) ≡ 32
 wide_at s places r h = wide_row 64 r s (omega arith) h
 
--- upwards: the numbers from j on are moved by a row
-pub record Raising (s₀ s : List ℕ) (i j : ℕ) : Type 0 where
-  pub places : length s ≡ 2048
-  pub above : 32 * i + 32 ≤ j
-  pub within : j ≤ 2048
-  pub low : (k : ℕ) → k < j → get_or s k 0 ≡ get_or s₀ k 0
-  pub high : (k : ℕ) → j ≤ k → k < 2048 → get_or s k 0 ≡ get_or s₀ (k - 32) 0
-
-pub raise-start : (s : List ℕ) (i : ℕ) → length s ≡ 2048 → i < 64 → Raising s s i 2048
-raise-start s i places h = record { places = places; above = omega arith; within = omega arith; low = λ k l. refl; high = λ k l g. absurd (omega arith) }
-
-module _ (s₀ : List ℕ) (places : length s₀ ≡ 2048) (s : List ℕ) (i j : ℕ) (r : Raising s₀ s i j) where
-  pub raise-step : 32 * i + 32 < j → Raising s₀ (set s (j - 1) (get_or s (j - 33) 0)) i (j - 1)
-  raise-step h = record {
-    places = length-set s (j - 1) (get_or s (j - 33) 0) ∙ r.places;
-    above = omega arith;
-    within = omega (arith, r.within);
-    low = λ k l. get_or-set_other s (j - 1) k (get_or s (j - 33) 0) 0 (λ e. omega arith) ∙ r.low k (omega arith);
-    high = λ k l g.
-        ⊎_elim
-        (λ (e : j - 1 ≡ k). rw (sym e)
-        (get_or-set_same s (j - 1) (get_or s (j - 33) 0) 0 (omega (arith, r.places, r.within)) ∙ r.low (j - 33) (omega arith) ∙ ap (λ (n : ℕ). get_or s₀ n 0) (back j h)))
-        (λ (e : j - 1 < k). get_or-set_other s (j - 1) k (get_or s (j - 33) 0) 0 (λ q. omega arith) ∙ r.high k (omega arith) g)
-        (eq-or-lt_of_le l);
-  } where
-    back : (j : ℕ) → 32 * i + 32 < j → j - 33 ≡ j - 1 - 32
-    back j h = omega arith
-
-  pub raise-end : i < 64 → j ≤ 32 * i + 32 → s ≡ on_rows (shift_in i (row_at i s₀)) s₀
-  raise-end l h = laid_out s (shift_in i (row_at i s₀) (rows_in 64 s₀)) r.places
+-- upwards: the numbers from row i on copied to the next row, up to the end
+module _ (s₀ s : List ℕ) (i : ℕ) (places : length s₀ ≡ 2048) (h : i < 64) (e : length s ≡ length s₀) (low : SameBelow s₀ s (32 * i + 32)) (copied : CopiedTo s₀ s (32 * i) (32 * i + 32) (2016 - 32 * i)) where
+  pub rows-raised : s ≡ on_rows (shift_in i (row_at i s₀)) s₀
+  rows-raised = laid_out s (shift_in i (row_at i s₀) (rows_in 64 s₀)) (e ∙ places)
       (rows-places 64 s
       ∙ places-in 64 (λ q. row_at q s₀) (λ q. row_at q s) i (row_at i s₀) (λ q g b. kept q g (omega arith)) (λ g. kept i g (omega arith)) moved
       ∙ ap (shift_in i (row_at i s₀)) (sym (rows-places 64 s₀))) where
         kept : (q : ℕ) → q < 64 → q ≤ i → row_at q s ≡ row_at q s₀
-        kept q g b = row_same s s₀ q q (wide_at s r.places q g) (wide_at s₀ places q g) (λ k m. r.low (32 * q + k) (omega (arith, r.above)))
+        kept q g b = row_same s s₀ q q (wide_at s (e ∙ places) q g) (wide_at s₀ places q g) (λ k m. low (32 * q + k) 0 (omega arith))
 
-        less : (q k : ℕ) → 32 * suc q + k - 32 ≡ 32 * q + k
-        less q k = omega arith
+        less : (q k : ℕ) → i ≤ q → 32 * i + (32 * suc q + k - (32 * i + 32)) ≡ 32 * q + k
+        less q k b = omega arith
 
         moved : (q : ℕ) → suc q < 64 → i ≤ q → row_at (suc q) s ≡ row_at q s₀
-        moved q g b = row_same s s₀ (suc q) q (wide_at s r.places (suc q) g) (wide_at s₀ places q (omega arith))
-            (λ k m. r.high (32 * suc q + k) (omega arith) (omega arith) ∙ ap (λ (n : ℕ). get_or s₀ n 0) (less q k))
+        moved q g b = row_same s s₀ (suc q) q (wide_at s (e ∙ places) (suc q) g) (wide_at s₀ places q (omega arith))
+            (λ k m. copied (32 * suc q + k) 0 (omega arith) (omega arith) ∙ ap (λ (n : ℕ). get_or s₀ n 0) (less q k b))
 
--- downwards: the numbers of the rows from i on are moved by a row, up to j
-pub record Lowering (s₀ s : List ℕ) (i j : ℕ) : Type 0 where
-  pub places : length s ≡ 2048
-  pub within : j ≤ 2016
-  pub low : (k : ℕ) → k < 32 * i → get_or s k 0 ≡ get_or s₀ k 0
-  pub moved : (k : ℕ) → 32 * i ≤ k → k < j → get_or s k 0 ≡ get_or s₀ (k + 32) 0
-  pub high : (k : ℕ) → j ≤ k → get_or s k 0 ≡ get_or s₀ k 0
-
-pub lower-start : (s : List ℕ) (i : ℕ) → length s ≡ 2048 → i < 64 → Lowering s s i (32 * i)
-lower-start s i places h = record { places = places; within = omega arith; low = λ k l. refl; moved = λ k l g. absurd (omega arith); high = λ k l. refl }
-
-module _ (s₀ : List ℕ) (places : length s₀ ≡ 2048) (s : List ℕ) (i j : ℕ) (r : Lowering s₀ s i j) where
-  pub lower-step : 32 * i ≤ j → j < 2016 → Lowering s₀ (set s j (get_or s (j + 32) 0)) i (j + 1)
-  lower-step b h = record {
-    places = length-set s j (get_or s (j + 32) 0) ∙ r.places;
-    within = omega arith;
-    low = λ k l. get_or-set_other s j k (get_or s (j + 32) 0) 0 (λ e. omega arith) ∙ r.low k l;
-    moved = λ k l g.
-        ⊎_elim
-        (λ (e : k ≡ j). rw e (get_or-set_same s j (get_or s (j + 32) 0) 0 (omega (arith, r.places)) ∙ r.high (j + 32) (omega arith)))
-        (λ (e : k < j). get_or-set_other s j k (get_or s (j + 32) 0) 0 (λ q. omega arith) ∙ r.moved k l e)
-        (eq-or-lt_of_le (omega arith));
-    high = λ k l. get_or-set_other s j k (get_or s (j + 32) 0) 0 (λ e. omega arith) ∙ r.high k (omega arith);
-  }
-
-  pub lower-end : i < 64 → 2016 ≤ j → (none : RelayList) → none ≡ relay_list [] → (after : List ℕ) → after ≡ with_row 63 (row_of (relays_of none)) s → after ≡ on_rows (shift_out i blank_row) s₀
-  lower-end l h none n after e = laid_out after (shift_out i blank_row (rows_in 64 s₀)) size
+-- downwards: the numbers after row i copied to the row before, and the last row written blank
+module _ (s₀ s : List ℕ) (i : ℕ) (places : length s₀ ≡ 2048) (h : i < 64) (e : length s ≡ length s₀) (low : SameBelow s₀ s (32 * i)) (copied : CopiedTo s₀ s (32 * i + 32) (32 * i) (2048 - (32 * i + 32))) where
+  pub rows-lowered : (none : RelayList) → none ≡ relay_list [] → (after : List ℕ) → after ≡ with_row 63 (row_of (relays_of none)) s → after ≡ on_rows (shift_out i blank_row) s₀
+  rows-lowered none n after a = laid_out after (shift_out i blank_row (rows_in 64 s₀)) size
       (rows-places 64 after
       ∙ places-out 64 (λ q. row_at q s₀) (λ q. row_at q after) i blank_row
-      (λ q g b. other q (omega arith) ∙ row_same s s₀ q q (wide_at s r.places q g) (wide_at s₀ places q g) (λ k m. r.low (32 * q + k) (omega arith)))
-      (λ q g b. other q (omega arith) ∙ row_same s s₀ q (suc q) (wide_at s r.places q (omega arith)) (wide_at s₀ places (suc q) g) (λ k m. r.moved (32 * q + k) (omega arith) (omega arith) ∙ ap (λ (n : ℕ). get_or s₀ n 0) (more q k)))
+      (λ q g b. other q (omega arith) ∙ row_same s s₀ q q (wide_at s (e ∙ places) q g) (wide_at s₀ places q g) (λ k m. low (32 * q + k) 0 (omega arith)))
+      (λ q g b. other q (omega arith) ∙ row_same s s₀ q (suc q) (wide_at s (e ∙ places) q (omega arith)) (wide_at s₀ places (suc q) g) (λ k m. copied (32 * q + k) 0 (omega arith) (omega arith) ∙ ap (λ (n : ℕ). get_or s₀ n 0) (more q k b)))
       last
       ∙ ap (shift_out i blank_row) (sym (rows-places 64 s₀))) where
         size : length after ≡ 2048
-        size = written-places s r.places 63 (omega arith) (row_of (relays_of none)) (wide none) after e
+        size = written-places s (e ∙ places) 63 (omega arith) (row_of (relays_of none)) (wide none) after a
 
         other : (q : ℕ) → q < 63 → row_at q after ≡ row_at q s
-        other q g = ap (row_at q) e ∙ row_kept (row_of (relays_of none)) (wide none) 64 63 q s (omega arith) (omega arith) (omega (arith, r.places)) (λ w. omega arith)
+        other q g = ap (row_at q) a ∙ row_kept (row_of (relays_of none)) (wide none) 64 63 q s (omega arith) (omega arith) (omega (arith, e, places)) (λ w. omega arith)
 
-        more : (q k : ℕ) → 32 * q + k + 32 ≡ 32 * suc q + k
-        more q k = omega arith
+        more : (q k : ℕ) → i ≤ q → 32 * i + 32 + (32 * q + k - 32 * i) ≡ 32 * suc q + k
+        more q k b = omega arith
 
         last : (q : ℕ) → suc q ≡ 64 → i ≤ q → row_at q after ≡ blank_row
         last q g b =
             sym (row_is 64 q after [] (omega arith))
-            ∙ ap (λ (rows : List (List ℕ)). get_or rows q []) (written-rows s r.places 63 (omega arith) (row_of (relays_of none)) (wide none) after e)
+            ∙ ap (λ (rows : List (List ℕ)). get_or rows q []) (written-rows s (e ∙ places) 63 (omega arith) (row_of (relays_of none)) (wide none) after a)
             ∙ ap (λ (m : ℕ). get_or (set (rows_in 64 s) 63 (row_of (relays_of none))) m []) (at q g)
             ∙ get_or-set_same (rows_in 64 s) 63 (row_of (relays_of none)) [] (omega (arith, count-rows 64 s))
             ∙ none_row none n where
@@ -146,10 +96,10 @@ module _ (s₀ : List ℕ) (places : length s₀ ≡ 2048) (s : List ℕ) (i j :
 
 -- a row written over the one of its place, or where the rows were shifted to make room for it
 module _ (s : List ℕ) (places : length s ≡ 2048) (i : ℕ) (h : i < 64) (row : List ℕ) (w : Wide row) where
-  pub row-over : (after : List ℕ) → after ≡ with_row i row s → after ≡ on_rows (row_put (Found i) row) s
+  pub row-over : (after : List ℕ) → after ≡ with_row i row s → after ≡ on_rows (row_put (Ok i) row) s
   row-over after e = laid_out after _ (written-places s places i h row w after e) (written-rows s places i h row w after e)
 
-  pub row-between : (x : List ℕ) → Wide x → (shifted after : List ℕ) → shifted ≡ on_rows (shift_in i x) s → after ≡ with_row i row shifted → after ≡ on_rows (row_put (Missing i) row) s
+  pub row-between : (x : List ℕ) → Wide x → (shifted after : List ℕ) → shifted ≡ on_rows (shift_in i x) s → after ≡ with_row i row shifted → after ≡ on_rows (row_put (Err i) row) s
   row-between x v shifted after q e =
       laid_out after _ (written-places shifted size i h row w after e)
       (written-rows shifted size i h row w after e ∙ ap (λ (rows : List (List ℕ)). set rows i row) now ∙ set-shift-in (rows_in 64 s) i x row) where

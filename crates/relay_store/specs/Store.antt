@@ -2,13 +2,11 @@
 -- Document 01, "Well formed": "The relay store has 64 rows of 32; row i holds the relays of the i-th record by address, zeros after
 -- its length and in unused rows."
 -- Assumes nothing.
-use Rattle.std.specs.Prelude.{ℕ, zero, suc, ◌+◌, ◌*◌, ◌<◌, ◌≤◌, Bool, true, ◌&&◌, List, [], ◌∷◌, ◌++◌, map, ◌≡◌, eqb, length, take, drop, get_or, set}
+use Rattle.std.specs.Prelude.{ℕ, zero, suc, ◌+◌, ◌*◌, ◌<◌, ◌≤◌, Bool, true, ◌&&◌, List, [], ◌∷◌, ◌++◌, map, ◌≡◌, eqb, length, take, drop, get_or, set, Result, Ok, Err}
 use Rattle.std.specs.Int.Bits.{bit_and, bit_or}
 use Rattle.types.specs.declared.Nwk.{Nwk}
 use Rattle.standard.specs.declared.RelayList.{RelayList}
 use Rattle.standard.specs.Route.{nwk}
-use Rattle.flat_map.specs.declared.Place.{Place}
-use Rattle.flat_map.specs.declared.Place.TheVariants.{Found, Missing}
 use Rattle.flat_map.specs.Rows.{pad}
 use Rattle.flat_map.specs.Shift.{shift_in}
 use Rattle.flat_map.specs.Table.{ZeroFrom, every}
@@ -54,14 +52,14 @@ unfoldable pub relay_list : List Nwk → RelayList
 relay_list relays = record { count = length relays; addresses = pad 32 (nwk 0) relays }
 
 -- a row put at a place: over the one that is there, or with the rows after it shifted
-abbrev pub row_put : Place → List ℕ → List (List ℕ) → List (List ℕ)
-row_put (Found i) row rows = set rows i row
-row_put (Missing i) row rows = shift_in i row rows
+abbrev pub row_put : Result ℕ ℕ → List ℕ → List (List ℕ) → List (List ℕ)
+row_put (Ok i) row rows = set rows i row
+row_put (Err i) row rows = shift_in i row rows
 
 -- a place of one of the 64 rows
-abbrev pub PlaceWithin : Place → Type 0
-PlaceWithin (Found i) = i < 64
-PlaceWithin (Missing i) = i < 64
+abbrev pub PlaceWithin : Result ℕ ℕ → Type 0
+PlaceWithin (Ok i) = i < 64
+PlaceWithin (Err i) = i < 64
 
 -- how many relays the record at a place has; 0 at a place that is not in use
 abbrev pub relay_count_of : RecordTable → ℕ → ℕ

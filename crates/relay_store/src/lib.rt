@@ -8,7 +8,6 @@ ghost use Rattle.flat_map.specs.Table.{ZeroFrom};
 ghost use Rattle.standard.specs.Route.{nwk};
 ghost use Rattle.relay_store.specs.Store.{row_at, with_row, on_rows, row_of, row_put, PlaceWithin, blank_row, relays_of, relay_list, agrees_by, Marked, Masks};
 
-use flat_map::Place;
 use standard::RelayList;
 use types::Nwk;
 
@@ -29,11 +28,9 @@ fn read_row(row: &[u16], count: usize) -> RelayList
     ensures { result ≡ relay_list (map nwk (take count row.now)) }
 {
     let mut l = no_relays();
-    let mut i: usize = 0;
-    while i < count {
+    for i in 0..count {
         let a = Nwk(row[i]);
         l.addresses[i] = a;
-        i += 1;
     }
     l.count = count;
     l
@@ -45,15 +42,13 @@ fn write_row(row: &mut [u16], l: RelayList, from: usize)
     ensures { row.new ≡ row_of (drop from (relays_of l)) }
 {
     let n = l.count - from;
-    let mut i: usize = 0;
-    while i < 32 {
+    for i in 0..32 {
         if i < n {
             let a = l.addresses[from + i];
             row[i] = a.0;
         } else {
             row[i] = 0;
         }
-        i += 1;
     }
 }
 
@@ -83,40 +78,33 @@ pub fn set_row(store: &mut [u16], i: usize, l: RelayList)
     set_row_from(store, i, l, 0);
 }
 
-// The rows from i on moved to the next place, number by number from the last; row i stays, and the last row is gone.
+// The rows from i on moved to the next place; row i stays, and the last row is gone.
 fn shift_rows_up(store: &mut [u16], i: usize)
     requires { (i < 64) × (length store.old ≡ 2048) }
     ensures { store.new ≡ on_rows (shift_in i (row_at i store.old)) store.old }
 {
-    let first = 32 * i + 32;
-    let mut j: usize = 2048;
-    while first < j {
-        store[j - 1] = store[j - 33];
-        j -= 1;
-    }
+    let start = 32 * i;
+    store.copy_within(start..2016, start + 32);
 }
 
-// The rows after i moved to the place before, number by number; the last row is left zero.
+// The rows after i moved to the place before; the last row is left zero.
 pub fn shift_rows_down(store: &mut [u16], i: usize)
     requires { (i < 64) × (length store.old ≡ 2048) }
     ensures { store.new ≡ on_rows (shift_out i blank_row) store.old }
 {
-    let mut j = 32 * i;
-    while j < 2016 {
-        store[j] = store[j + 32];
-        j += 1;
-    }
+    let start = 32 * i;
+    store.copy_within(start + 32..2048, start);
     set_row(store, 63, no_relays());
 }
 
 // A record's relays, those of a list from a place on, written to its row: over the one that is there, or with the rows after it shifted.
-pub fn put_row(store: &mut [u16], place: Place, l: RelayList, from: usize)
+pub fn put_row(store: &mut [u16], place: Result<usize, usize>, l: RelayList, from: usize)
     requires { (l.count ≤ 32) × (from ≤ l.count) × PlaceWithin place × (length store.old ≡ 2048) }
     ensures { store.new ≡ on_rows (row_put place (row_of (drop from (relays_of l)))) store.old }
 {
     match place {
-        Place::Found(i) => set_row_from(store, i, l, from),
-        Place::Missing(i) => {
+        Ok(i) => set_row_from(store, i, l, from),
+        Err(i) => {
             shift_rows_up(store, i);
             set_row_from(store, i, l, from);
         }
@@ -129,10 +117,8 @@ fn mark(over: &mut [u16], row: &[u16], mask: &[u16])
     requires { (length over.old ≡ 32) × (length row.now ≡ 32) × (length mask.now ≡ 32) }
     ensures { Marked over.old row.now mask.now over.new }
 {
-    let mut j: usize = 0;
-    while j < 32 {
+    for j in 0..32 {
         over[j] = over[j] | (row[j] & mask[j]);
-        j += 1;
     }
 }
 
@@ -141,11 +127,7 @@ fn set_masks(masks: &mut [u16])
     requires { (length masks.old ≡ 64) × ZeroFrom masks.old 0 }
     ensures { Masks masks.new }
 {
-    let mut k: usize = 32;
-    while k < 64 {
-        masks[k] = 65535;
-        k += 1;
-    }
+    masks[32..].fill(65535);
 }
 
 // Whether a store agrees with a table, of which it takes the numbers of relays: 64 rows, each zero after the relays of its record.
@@ -161,8 +143,7 @@ pub fn agrees(lengths: &[u8], store: &[u16]) -> bool
     let mut masks: [u16; 64] = [0; 64];
     set_masks(&mut masks);
     let mut over: [u16; 32] = [0; 32];
-    let mut i: usize = 0;
-    while i < 64 {
+    for i in 0..64 {
         let mut n = lengths[i] as usize;
         if 32 < n {
             n = 32;
@@ -174,7 +155,6 @@ pub fn agrees(lengths: &[u8], store: &[u16]) -> bool
             &store[start..start + 32],
             &masks[from..from + 32],
         );
-        i += 1;
     }
-    columns::zero_from16(&over, 0)
+    columns::zero_from(&over, 0)
 }

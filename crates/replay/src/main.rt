@@ -9,7 +9,6 @@ use script::{Line, Scan};
 use std::io;
 use std::io::Read;
 use store_words::Turn;
-use words::Meaning;
 use world::World;
 
 // The calls that this program answers itself, by their numbers in the table of words.
@@ -87,8 +86,7 @@ fn tell_tables(
     waiting: usize,
 ) -> io::Result<usize> {
     let mut to = waiting;
-    let mut i: u64 = 0;
-    while i < 1000 {
+    for i in 0..1000 {
         let a = calls::table_line(world, i, store);
         to = room(rt, out, to)?;
         if a.kind != 0 {
@@ -96,7 +94,6 @@ fn tell_tables(
         }
         let n = a.numbers;
         to = say::table_line(out, to, n);
-        i += 1;
     }
     Ok(to)
 }
@@ -179,8 +176,8 @@ fn spoken(
 ) -> io::Result<Machine> {
     let meaning = words::called(word, args);
     match meaning {
-        Meaning::Call(number) => made(rt, m, number, args, store, out),
-        Meaning::Bad => bad(rt, m, out),
+        Some(number) => made(rt, m, number, args, store, out),
+        None => bad(rt, m, out),
     }
 }
 
@@ -260,6 +257,7 @@ fn part(
 ) -> io::Result<Machine> {
     let mut w = m;
     let mut from: usize = 0;
+    // A turn passes a whole line, not one byte.
     while from < bytes.len() {
         let to = script::line_end(bytes, from);
         w = read_on(w, bytes, from, to);
@@ -308,14 +306,6 @@ fn step(
     })
 }
 
-// The turns that are left: none where there is no more input.
-fn turns_left(more: bool, turns: u64) -> u64
-    requires { 0 < turns }
-    ensures { result < turns }
-{
-    if more { turns - 1 } else { 0 }
-}
-
 // The whole input. No run uses up the turns.
 fn read_all(
     rt: &impl Print,
@@ -326,11 +316,12 @@ fn read_all(
     out: &mut [u8],
 ) -> io::Result<Machine> {
     let mut w = m;
-    let mut turns = u64::MAX;
-    while turns > 0 {
+    for _ in 0..u64::MAX {
         let s = step(rt, reader, w, input, store, out)?;
         w = s.machine;
-        turns = turns_left(s.more, turns);
+        if !s.more {
+            return Ok(w);
+        }
     }
     Ok(w)
 }

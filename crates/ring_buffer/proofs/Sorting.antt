@@ -7,6 +7,8 @@ use native.Mathlib.Omega.{arith, min_cases}
 use mathlib.Core.List.{List, [], ◌∷◌}
 use mathlib.Core.Path.{◌≡◌, refl, ap, ◌∙◌}
 use lib.ListN.{length, get_or, set}
+use Rattle.std.specs.List.{swap}
+use Rattle.std.proofs.lemmas.List.{get_or_default}
 use Rattle.standard.specs.Median.{times, Ascending, Ordered}
 use Rattle.standard.proofs.Median.{times-swap, times-cons}
 use Rattle.ring_buffer.specs.Exchange.{exchanged}
@@ -20,8 +22,8 @@ kept l i h = go l i (rw (add-one i) at h) where
   go (x ∷ y ∷ r) zero h = rw (min-eq_left h, max-eq_right h)
   go (x ∷ y ∷ r) (suc i) h = ap (λ (t : List ℕ). x ∷ t) (go (y ∷ r) i h)
 
--- two that do not are written one over the other
-pub swapped : (l : List ℕ) (i : ℕ) → i + 1 < length l → get_or l (i + 1) 0 ≤ get_or l i 0
+-- two that do not change places
+swapped : (l : List ℕ) (i : ℕ) → i + 1 < length l → get_or l (i + 1) 0 ≤ get_or l i 0
     → set (set l i (get_or l (i + 1) 0)) (i + 1) (get_or l i 0) ≡ exchanged i l
 swapped l i f h = rw (add-one i) (go l i (rw (add-one i) at f) (rw (add-one i) at h)) where
   go : (l : List ℕ) (i : ℕ) → suc i < length l → get_or l (suc i) 0 ≤ get_or l i 0
@@ -30,6 +32,13 @@ swapped l i f h = rw (add-one i) (go l i (rw (add-one i) at f) (rw (add-one i) a
   go (x ∷ []) i f h = absurd (not-suc-le-zero (le_of_suc-le-suc f))
   go (x ∷ y ∷ r) zero f h = rw (min-eq_right h, max-eq_left h)
   go (x ∷ y ∷ r) (suc i) f h = ap (λ (t : List ℕ). x ∷ t) (go (y ∷ r) i (le_of_suc-le-suc f) h)
+
+pub traded : (l : List ℕ) (i : ℕ) → i + 1 < length l → get_or l (i + 1) 0 ≤ get_or l i 0 → swap l i (i + 1) ≡ exchanged i l
+traded [] i f h = absurd (not-suc-le-zero f)
+traded (d ∷ l) i f h =
+    ap (λ (n : ℕ). set (set (d ∷ l) i n) (i + 1) (get_or (d ∷ l) i d)) (get_or_default (d ∷ l) (i + 1) d 0 f)
+    ∙ ap (λ (n : ℕ). set (set (d ∷ l) i (get_or (d ∷ l) (i + 1) 0)) (i + 1) n) (get_or_default (d ∷ l) i d 0 (omega (arith, f)))
+    ∙ swapped (d ∷ l) i f h
 
 exchange-times : (n i : ℕ) (l : List ℕ) → times n (exchanged i l) ≡ times n l
 exchange-times n i [] = refl

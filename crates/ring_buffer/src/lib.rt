@@ -1,10 +1,11 @@
 // The last three link samples and their median; a ring of samples as one number.
 #![tactic(auto)]
 
-ghost use Rattle.std.specs.Prelude.{◌+◌, ◌*◌, ◌<◌, min, ◌≡◌, eqb, drop};
+ghost use Rattle.std.specs.Prelude.{◌==◌, ◌+◌, ◌*◌, ◌<◌, min, ◌≡◌, eqb, drop};
+ghost use Rattle.std.specs.List.{list_all};
 ghost use Rattle.standard.specs.Median.{Ordered, median_of};
 ghost use Rattle.standard.specs.Tells.{Tells};
-ghost use Rattle.ring_buffer.specs.Ring.{fresh, after_push, all_zero, WellFormed, well_formed};
+ghost use Rattle.ring_buffer.specs.Ring.{fresh, after_push, WellFormed, well_formed};
 ghost use Rattle.ring_buffer.specs.Word.{ring_of, ring_word, word_end, InRange};
 ghost use Rattle.ring_buffer.specs.Exchange.{exchanged};
 
@@ -143,16 +144,9 @@ fn one_more(len: u8) -> u8
 
 // Whether every value from the place `from` on is 0.
 fn zero_from(values: &[u8], from: usize) -> bool
-    ensures { result ≡ all_zero (drop from values.now) }
+    ensures { result ≡ list_all (λ x. x == 0) (drop from values.now) }
 {
-    let mut i = from;
-    while i < values.len() {
-        if values[i] != 0 {
-            return false;
-        }
-        i += 1;
-    }
-    true
+    values.iter().skip(from).all(|x| *x == 0)
 }
 
 // The samples with the one at `i` and the one after it in ascending order.
@@ -160,14 +154,10 @@ fn exchange(samples: [u8; 3], i: usize) -> [u8; 3]
     requires { i < 2 }
     ensures { result ≡ exchanged i samples }
 {
-    let first = samples[i];
-    let second = samples[i + 1];
-    if first <= second {
-        return samples;
-    }
     let mut swapped = samples;
-    swapped[i] = second;
-    swapped[i + 1] = first;
+    if samples[i + 1] < samples[i] {
+        swapped.swap(i, i + 1);
+    }
     swapped
 }
 

@@ -1,23 +1,16 @@
 -- The values that the routing calls answer with, as numbers.
 -- Document 01, "How each place should look": "a definition gives this paper's number and values for each of its cases".
 -- Assumes nothing.
-use Rattle.std.specs.Prelude.{ℕ, List, [], ◌∷◌, map}
+use Rattle.std.specs.Prelude.{ℕ, List, [], ◌∷◌, map, Option, Some, None}
 use Rattle.numbers.specs.Said.{flag_number}
 use Rattle.standard.specs.declared.RouteEntry.{RouteEntry}
 use Rattle.standard.specs.declared.DiscoveryEntry.{DiscoveryEntry}
 use Rattle.standard.specs.declared.RelayList.{RelayList}
 use Rattle.standard.specs.Numbers.{status_number}
 use Rattle.relay_store.specs.Store.{number, relays_of}
-use Rattle.route_table.specs.declared.RouteLookup.{RouteLookup}
-use Rattle.route_table.specs.declared.RouteLookup.TheVariants as route
-use Rattle.discovery_table.specs.declared.DiscoveryLookup.{DiscoveryLookup}
-use Rattle.discovery_table.specs.declared.DiscoveryLookup.TheVariants as discovery
-use Rattle.discovery_table.specs.declared.Deadline.{Deadline}
-use Rattle.discovery_table.specs.declared.Deadline.TheVariants as deadline
-use Rattle.route_calls.specs.declared.StatusAnswer.{StatusAnswer}
-use Rattle.route_calls.specs.declared.StatusAnswer.TheVariants as status
 use Rattle.route_calls.specs.declared.Checked.{Checked}
 use Rattle.route_calls.specs.declared.Checked.TheVariants as checked
+use Rattle.standard.specs.declared.Status.{Status}
 
 -- a route: destination, status, no route cache, many to one, record required, expired, hop, cost, total and recent use
 abbrev pub route_numbers : RouteEntry → List ℕ
@@ -51,21 +44,21 @@ abbrev pub relay_numbers : RelayList → List ℕ
 relay_numbers l = l.count ∷ map number (relays_of l)
 
 -- 0 for none, else 1 and the value
-abbrev pub status_numbers : StatusAnswer → List ℕ
-status_numbers status.Absent = 0 ∷ []
-status_numbers (status.Is s) = 1 ∷ status_number s ∷ []
+abbrev pub status_numbers : Option Status → List ℕ
+status_numbers None = 0 ∷ []
+status_numbers (Some s) = 1 ∷ status_number s ∷ []
 
-abbrev pub deadline_numbers : Deadline → List ℕ
-deadline_numbers deadline.None = 0 ∷ []
-deadline_numbers (deadline.At time) = 1 ∷ time ∷ []
+abbrev pub deadline_numbers : Option ℕ → List ℕ
+deadline_numbers None = 0 ∷ []
+deadline_numbers (Some time) = 1 ∷ time ∷ []
 
-abbrev pub route_looked_numbers : RouteLookup → List ℕ
-route_looked_numbers route.Missing = 0 ∷ []
-route_looked_numbers (route.Found e) = 1 ∷ route_numbers e
+abbrev pub route_looked_numbers : Option RouteEntry → List ℕ
+route_looked_numbers None = 0 ∷ []
+route_looked_numbers (Some e) = 1 ∷ route_numbers e
 
-abbrev pub discovery_looked_numbers : DiscoveryLookup → List ℕ
-discovery_looked_numbers discovery.Missing = 0 ∷ []
-discovery_looked_numbers (discovery.Found e) = 1 ∷ discovery_numbers e
+abbrev pub discovery_looked_numbers : Option DiscoveryEntry → List ℕ
+discovery_looked_numbers None = 0 ∷ []
+discovery_looked_numbers (Some e) = 1 ∷ discovery_numbers e
 
 -- sound 0; an Active route with hop 0xFFFF 1 and its destination; an orphan 2 and its destination
 abbrev pub check_numbers : Checked → List ℕ

@@ -8,31 +8,17 @@ ghost use Rattle.relay_store.specs.Store.{number, relays_of};
 ghost use Rattle.route_answers.specs.Values.{route_numbers, discovery_numbers, relay_numbers, status_numbers, deadline_numbers, check_numbers, route_looked_numbers, discovery_looked_numbers};
 ghost use Rattle.route_answers.specs.Answers.{status_said, hop_said, deadline_said, count_said, route_at_said, discovery_at_said, check_said, told_said, done_said, reply_said, request_said, begin_said, record_said, way_said, record_at_said};
 
-use discovery_table::{Deadline, DiscoveryLookup};
 use numbers::{Answer, Numbers};
-use route_begin::BeginAnswer;
-use route_calls::{Checked, RouteAnswer, StatusAnswer};
-use route_record::RecordAnswer;
-use route_reply::ReplyAnswer;
-use route_request::RequestAnswer;
-use route_table::RouteLookup;
-use routing::{
-    CheckOutcome, CountOutcome, DeadlineOutcome, DiscoveryAtOutcome, HopOutcome, RecordAtAnswer,
-    RecordAtOutcome, RouteAtOutcome, RouteToAnswer, RouteToOutcome, StatusOutcome, ToldAnswer,
-};
-use standard::{DiscoveryEntry, RelayList, RouteEntry, RouteReplyDisposition, Status, Update};
-use types::Nwk;
+use route_calls::Checked;
+use routing::{RecordAtOutcome, RouteToAnswer, RouteToOutcome};
+use standard::{DiscoveryEntry, RelayList, RouteEntry, RouteReplyDisposition, RouteUpdate, Status};
+use types::{Nwk, Refusal};
 
 // A status as its number.
 pub fn status_number(s: Status) -> u64
     ensures { result ≡ status_number s }
 {
-    match s {
-        Status::Active => 0,
-        Status::DiscoveryUnderway => 1,
-        Status::DiscoveryFailed => 2,
-        Status::Inactive => 3,
-    }
+    s as u64
 }
 
 // A route's numbers after a first one.
@@ -82,15 +68,10 @@ pub fn discovery_values(first: u64, e: DiscoveryEntry) -> Answer
 fn push_addresses(n: Numbers, l: RelayList) -> Numbers
     ensures { result ≡ pushed_all n (map number (relays_of l)) }
 {
+    let count = l.count.min(32);
     let mut m = n;
-    let mut i: usize = 0;
-    while i < l.count {
-        if 32 <= i {
-            return m;
-        }
-        let a = l.addresses[i];
+    for a in &l.addresses[..count] {
         m = numbers::push(m, a.0 as u64);
-        i += 1;
     }
     m
 }
@@ -104,12 +85,12 @@ pub fn push_relays(n: Numbers, l: RelayList) -> Numbers
 }
 
 // What a call reports of routes.
-fn push_update(n: Numbers, u: Update) -> Numbers
+fn push_update(n: Numbers, u: Option<RouteUpdate>) -> Numbers
     ensures { result ≡ pushed_all n (update_numbers u) }
 {
     match u {
-        Update::Same => numbers::push(n, 0),
-        Update::Changed(route) => {
+        None => numbers::push(n, 0),
+        Some(route) => {
             let xs = [
                 1,
                 route.destination.0 as u64,
@@ -138,24 +119,24 @@ fn push_disposition(n: Numbers, d: RouteReplyDisposition) -> Numbers
     }
 }
 
-fn say_status(s: StatusAnswer) -> Answer
+fn say_status(s: Option<Status>) -> Answer
     ensures { result ≡ spoken (ok (status_numbers s)) }
 {
     match s {
-        StatusAnswer::Absent => numbers::said(&[0]),
-        StatusAnswer::Is(status) => {
+        None => numbers::said(&[0]),
+        Some(status) => {
             let x = status_number(status);
             numbers::said(&[1, x])
         }
     }
 }
 
-fn say_deadline(d: Deadline) -> Answer
+fn say_deadline(d: Option<u64>) -> Answer
     ensures { result ≡ spoken (ok (deadline_numbers d)) }
 {
     match d {
-        Deadline::None => numbers::said(&[0]),
-        Deadline::At(time) => numbers::said(&[1, time]),
+        None => numbers::said(&[0]),
+        Some(time) => numbers::said(&[1, time]),
     }
 }
 
@@ -169,102 +150,102 @@ fn say_check(x: Checked) -> Answer
     }
 }
 
-fn say_route(x: RouteLookup) -> Answer
+fn say_route(x: Option<RouteEntry>) -> Answer
     ensures { result ≡ spoken (ok (route_looked_numbers x)) }
 {
     match x {
-        RouteLookup::Missing => numbers::said(&[0]),
-        RouteLookup::Found(e) => route_values(1, e),
+        None => numbers::said(&[0]),
+        Some(e) => route_values(1, e),
     }
 }
 
-fn say_discovery(x: DiscoveryLookup) -> Answer
+fn say_discovery(x: Option<DiscoveryEntry>) -> Answer
     ensures { result ≡ spoken (ok (discovery_looked_numbers x)) }
 {
     match x {
-        DiscoveryLookup::Missing => numbers::said(&[0]),
-        DiscoveryLookup::Found(e) => discovery_values(1, e),
+        None => numbers::said(&[0]),
+        Some(e) => discovery_values(1, e),
     }
 }
 
 // How a route stands.
-pub fn status_answer(o: StatusOutcome) -> Answer
+pub fn status_answer(o: Result<Option<Status>, Refusal>) -> Answer
     ensures { result ≡ spoken (status_said o) }
 {
     match o {
-        StatusOutcome::Refused(why) => numbers::refused(why),
-        StatusOutcome::Answered(s) => say_status(s),
+        Err(why) => numbers::refused(why),
+        Ok(s) => say_status(s),
     }
 }
 
 // The next hop.
-pub fn hop_answer(o: HopOutcome) -> Answer
+pub fn hop_answer(o: Result<Option<Nwk>, Refusal>) -> Answer
     ensures { result ≡ spoken (hop_said o) }
 {
     match o {
-        HopOutcome::Refused(why) => numbers::refused(why),
-        HopOutcome::NoRoute => numbers::said(&[0]),
-        HopOutcome::Hop(n) => numbers::said(&[1, n.0 as u64]),
+        Err(why) => numbers::refused(why),
+        Ok(None) => numbers::said(&[0]),
+        Ok(Some(n)) => numbers::said(&[1, n.0 as u64]),
     }
 }
 
 // When a discovery is over.
-pub fn deadline_answer(o: DeadlineOutcome) -> Answer
+pub fn deadline_answer(o: Result<Option<u64>, Refusal>) -> Answer
     ensures { result ≡ spoken (deadline_said o) }
 {
     match o {
-        DeadlineOutcome::Refused(why) => numbers::refused(why),
-        DeadlineOutcome::Answered(d) => say_deadline(d),
+        Err(why) => numbers::refused(why),
+        Ok(d) => say_deadline(d),
     }
 }
 
 // How many rows a table has.
-pub fn count_answer(o: CountOutcome) -> Answer
+pub fn count_answer(o: Result<usize, Refusal>) -> Answer
     ensures { result ≡ spoken (count_said o) }
 {
     match o {
-        CountOutcome::Refused(why) => numbers::refused(why),
-        CountOutcome::Answered(n) => numbers::said(&[n as u64]),
+        Err(why) => numbers::refused(why),
+        Ok(n) => numbers::said(&[n as u64]),
     }
 }
 
 // The route at a place.
-pub fn route_at_answer(o: RouteAtOutcome) -> Answer
+pub fn route_at_answer(o: Result<Option<RouteEntry>, Refusal>) -> Answer
     ensures { result ≡ spoken (route_at_said o) }
 {
     match o {
-        RouteAtOutcome::Refused(why) => numbers::refused(why),
-        RouteAtOutcome::Answered(x) => say_route(x),
+        Err(why) => numbers::refused(why),
+        Ok(x) => say_route(x),
     }
 }
 
 // The discovery at a place.
-pub fn discovery_at_answer(o: DiscoveryAtOutcome) -> Answer
+pub fn discovery_at_answer(o: Result<Option<DiscoveryEntry>, Refusal>) -> Answer
     ensures { result ≡ spoken (discovery_at_said o) }
 {
     match o {
-        DiscoveryAtOutcome::Refused(why) => numbers::refused(why),
-        DiscoveryAtOutcome::Answered(x) => say_discovery(x),
+        Err(why) => numbers::refused(why),
+        Ok(x) => say_discovery(x),
     }
 }
 
 // The table check.
-pub fn check_answer(o: CheckOutcome) -> Answer
+pub fn check_answer(o: Result<Checked, Refusal>) -> Answer
     ensures { result ≡ spoken (check_said o) }
 {
     match o {
-        CheckOutcome::Refused(why) => numbers::refused(why),
-        CheckOutcome::Answered(x) => say_check(x),
+        Err(why) => numbers::refused(why),
+        Ok(x) => say_check(x),
     }
 }
 
 // Yes or no.
-pub fn told_answer(o: ToldAnswer) -> Answer
+pub fn told_answer(o: Result<bool, Refusal>) -> Answer
     ensures { result ≡ spoken (told_said o) }
 {
     match o {
-        ToldAnswer::Refused(why) => numbers::refused(why),
-        ToldAnswer::Told(b) => {
+        Err(why) => numbers::refused(why),
+        Ok(b) => {
             let x = numbers::flag_number(b);
             numbers::said(&[x])
         }
@@ -272,22 +253,22 @@ pub fn told_answer(o: ToldAnswer) -> Answer
 }
 
 // Done, and nothing more.
-pub fn done_answer(o: RouteAnswer) -> Answer
+pub fn done_answer(o: Result<(), Refusal>) -> Answer
     ensures { result ≡ spoken (done_said o) }
 {
     match o {
-        RouteAnswer::Refused(why) => numbers::refused(why),
-        RouteAnswer::Done => numbers::done(),
+        Err(why) => numbers::refused(why),
+        Ok(()) => numbers::done(),
     }
 }
 
 // What becomes of a route reply.
-pub fn reply_answer(o: ReplyAnswer) -> Answer
+pub fn reply_answer(o: Result<(RouteReplyDisposition, Option<RouteUpdate>), Refusal>) -> Answer
     ensures { result ≡ spoken (reply_said o) }
 {
     match o {
-        ReplyAnswer::Refused(why) => numbers::refused(why),
-        ReplyAnswer::Answered(d, u) => {
+        Err(why) => numbers::refused(why),
+        Ok((d, u)) => {
             let n = numbers::none();
             let m = push_disposition(n, d);
             numbers::answered(push_update(m, u))
@@ -296,12 +277,12 @@ pub fn reply_answer(o: ReplyAnswer) -> Answer
 }
 
 // What becomes of a route request.
-pub fn request_answer(o: RequestAnswer) -> Answer
+pub fn request_answer(o: Result<(bool, Option<RouteUpdate>), Refusal>) -> Answer
     ensures { result ≡ spoken (request_said o) }
 {
     match o {
-        RequestAnswer::Refused(why) => numbers::refused(why),
-        RequestAnswer::Answered(accepted, u) => {
+        Err(why) => numbers::refused(why),
+        Ok((accepted, u)) => {
             let n = numbers::none();
             let m = numbers::push(n, numbers::flag_number(accepted));
             numbers::answered(push_update(m, u))
@@ -310,22 +291,22 @@ pub fn request_answer(o: RequestAnswer) -> Answer
 }
 
 // The request id of what was begun.
-pub fn begin_answer(o: BeginAnswer) -> Answer
+pub fn begin_answer(o: Result<u8, Refusal>) -> Answer
     ensures { result ≡ spoken (begin_said o) }
 {
     match o {
-        BeginAnswer::Refused(why) => numbers::refused(why),
-        BeginAnswer::Begun(id) => numbers::said(&[id as u64]),
+        Err(why) => numbers::refused(why),
+        Ok(id) => numbers::said(&[id as u64]),
     }
 }
 
 // Whether a route record changed what is known.
-pub fn record_answer(o: RecordAnswer) -> Answer
+pub fn record_answer(o: Result<bool, Refusal>) -> Answer
     ensures { result ≡ spoken (record_said o) }
 {
     match o {
-        RecordAnswer::Refused(why) => numbers::refused(why),
-        RecordAnswer::Stored(b) => {
+        Err(why) => numbers::refused(why),
+        Ok(b) => {
             let x = numbers::flag_number(b);
             numbers::said(&[x])
         }
@@ -347,10 +328,10 @@ pub fn way_answer(o: RouteToOutcome) -> Answer
 {
     let answer = o.answer;
     match answer {
-        RouteToAnswer::Refused(why) => numbers::refused(why),
-        RouteToAnswer::NoRoute => numbers::said(&[0]),
-        RouteToAnswer::NextHop(n) => numbers::said(&[1, n.0 as u64]),
-        RouteToAnswer::SourceRoute => {
+        Err(why) => numbers::refused(why),
+        Ok(RouteToAnswer::NoRoute) => numbers::said(&[0]),
+        Ok(RouteToAnswer::NextHop(n)) => numbers::said(&[1, n.0 as u64]),
+        Ok(RouteToAnswer::SourceRoute) => {
             let l = o.relays;
             say_relays(2, l)
         }
@@ -373,9 +354,9 @@ pub fn record_at_answer(o: RecordAtOutcome) -> Answer
 {
     let answer = o.answer;
     match answer {
-        RecordAtAnswer::Refused(why) => numbers::refused(why),
-        RecordAtAnswer::Missing => numbers::said(&[0]),
-        RecordAtAnswer::Found(e) => {
+        Err(why) => numbers::refused(why),
+        Ok(None) => numbers::said(&[0]),
+        Ok(Some(e)) => {
             let l = o.relays;
             let destination = e.destination;
             record_values(1, destination, l)

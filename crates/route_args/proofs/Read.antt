@@ -1,13 +1,16 @@
 -- A list read place by place into an array: a place past the list's end reads the blank, and what has no place is left out.
 -- Assumes nothing.
-use Prim.Native.Nat.{ℕ, zero, suc, ◌+◌, ◌<◌, ◌≤◌}
+use Prim.Native.Nat.{ℕ, zero, suc, ◌+◌, ◌<◌, ◌≤◌, min}
 use mathlib.Core.List.{List, [], ◌∷◌, map}
+use mathlib.Core.Logic.{⊎_elim}
 use mathlib.Core.Path.{◌≡◌, refl}
 use native.Mathlib.Nat.{le_of_suc-le-suc, not-suc-le-zero}
 use native.Mathlib.Numerals.{add-one}
+use native.Mathlib.Omega.{arith}
 use lib.ListN.{take, get_or, set}
 use lib.Seq.{take-nil}
 use Rattle.flat_map.specs.Rows.{pad}
+use Rattle.flat_map.proofs.Compare.{below_or_not}
 use Rattle.flat_map.proofs.Rows.{cons}
 
 module _ {A B : Type 0} (f : A → B) where
@@ -26,3 +29,7 @@ module _ {A B : Type 0} (f : A → B) where
   read-enough b (suc n) (suc i) zero xs h k = absurd (not-suc-le-zero k)
   read-enough b (suc n) (suc i) (suc m) [] h k = refl
   read-enough b (suc n) (suc i) (suc m) (x ∷ xs) h k = cons (f x) (read-enough b n i m xs (le_of_suc-le-suc h) (le_of_suc-le-suc k))
+
+  -- as many as have a place are enough
+  pub read-most : (b : B) (n m : ℕ) (xs : List A) → pad n b (map f (take (min m n) xs)) ≡ pad n b (map f (take m xs))
+  read-most b n m xs = ⊎_elim (λ (h : m < n). let e : min m n ≡ m = omega arith in rw e) (λ (h : n ≤ m). read-enough b n (min m n) m xs (omega arith) h) (below_or_not m n)

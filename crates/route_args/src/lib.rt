@@ -46,14 +46,9 @@ pub fn relays(args: &[u64], from: usize) -> RelayList
     let count = numbers::at(args, from) as usize;
     let mut l = relay_store::no_relays();
     l.count = count;
-    let mut i: usize = 0;
-    while i < count {
-        if 32 <= i {
-            return l;
-        }
+    for i in 0..count.min(32) {
         let a = numbers::nwk(args, from + 1 + i);
         l.addresses[i] = a;
-        i += 1;
     }
     l
 }

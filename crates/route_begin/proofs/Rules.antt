@@ -1,9 +1,9 @@
 -- The outcome by the room that the rows want once expiry is made: one under the destination in the routes, one under the pair in the discoveries.
 -- Rows that columns hold fit, so a search that is made in columns has begun.
+use Rattle.std.specs.Prelude.{Some, None, Result, Ok, Err}
 use Prim.Native.Nat.{ℕ, ◌≤◌}
 use mathlib.Core.Bool.{Bool, true, false, cond}
 use mathlib.Core.List.{List, []}
-use mathlib.Core.Option.{none, some}
 use mathlib.Core.Path.{◌≡◌, refl, sym, ap, ◌∙◌, subst}
 use borrow.Author.Tests.{le-leb, leb-true}
 use lib.Dec.{leb}
@@ -26,29 +26,27 @@ use Rattle.discovery_table.specs.Table as discovery
 use Rattle.search_tables.specs.Packed.{SearchTables, in_columns, WellFormed, tables_of, Fits, Holds, InKey}
 use Rattle.search_tables.proofs.Packing.{search-fits, route-or-key, routes-after, discoveries-after, both_hold, holds-itself}
 use Rattle.expiry.proofs.Fit.{expired-fits}
-use Rattle.route_begin.specs.declared.BeginAnswer.{BeginAnswer}
-use Rattle.route_begin.specs.declared.BeginAnswer.TheVariants.{Refused, Begun}
 use Rattle.route_begin.specs.declared.BeginResult.{BeginResult}
 use Rattle.route_begin.specs.Answer.{BeginStep, refused, begun_with, by_time, begun_on, begun, advertised, Leaves}
 use Rattle.route_begin.specs.Marked.{marked_routes, marked, noted, began_new}
 
 begun-by : (old : Tables) (id : ℕ) (t : Tables) (a b : Bool) → leb (length t.routes) 64 ≡ a → leb (length t.discoveries) 32 ≡ b
-    → begun_with old id t ≡ cond a (cond b (record { answer = Begun id; tables = t }) (refused old DiscoveryTableFull)) (refused old RouteTableFull)
+    → begun_with old id t ≡ cond a (cond b (record { answer = Ok id; tables = t }) (refused old DiscoveryTableFull)) (refused old RouteTableFull)
 unfolding begun_with
 begun-by old id t a b p q = rw (p, q)
 
 -- a step that is another one
-pub leaves-as : (s : SearchTables) (answer : BeginAnswer) (x y : BeginStep) → x ≡ y → Leaves s answer x → Leaves s answer y
+pub leaves-as : (s : SearchTables) (answer : Result ℕ Refusal) (x y : BeginStep) → x ≡ y → Leaves s answer x → Leaves s answer y
 leaves-as s answer x y q l = subst (λ (z : BeginStep). Leaves s answer z) q l
 
 -- a refusal writes nothing
-pub leaves-refused : (s : SearchTables) → WellFormed s → (why : Refusal) (r : BeginResult) → r ≡ record { answer = Refused why; routes = s.routes.count; discoveries = s.discoveries.count }
+pub leaves-refused : (s : SearchTables) → WellFormed s → (why : Refusal) (r : BeginResult) → r ≡ record { answer = Err why; routes = s.routes.count; discoveries = s.discoveries.count }
     → (x : BeginStep) → x ≡ refused (tables_of s) why
     → Leaves (in_columns s.routes.keys s.routes.words s.routes.usage r.routes s.discoveries.keys s.discoveries.words s.discoveries.ends r.discoveries) r.answer x
 leaves-refused s w why r e x q =
     subst
     (λ (z : BeginResult). Leaves (in_columns s.routes.keys s.routes.words s.routes.usage z.routes s.discoveries.keys s.discoveries.words s.discoveries.ends z.discoveries) z.answer x)
-    (sym e) (leaves-as s (Refused why) (refused (tables_of s) why) x (sym q) (record { said = refl; left = holds-itself s w }))
+    (sym e) (leaves-as s (Err why) (refused (tables_of s) why) x (sym q) (record { said = refl; left = holds-itself s w }))
 
 -- the route that is marked stands under its destination
 pub marked-key : (destination : Nwk) (xs : List RouteEntry) → route_key (with_status DiscoveryUnderway (route_or destination xs)) ≡ destination.0
@@ -67,9 +65,9 @@ module _ (now : ℕ) (old : Tables) (left : SearchTables) (h : Holds left (expir
   unfolding expired
   discovery-place k e = subst (λ (t : Tables). count_with discovery_key k t.discoveries ≤ 32) (sym h.rows) (leb-true _ 32 e)
 
-  leaves-begun : (s : SearchTables) (id : ℕ) (t : Tables) → Holds s t → Leaves s (Begun id) (begun_with old id t)
+  leaves-begun : (s : SearchTables) (id : ℕ) (t : Tables) → Holds s t → Leaves s (Ok id) (begun_with old id t)
   leaves-begun s id t held =
-      leaves-as s (Begun id) (record { answer = Begun id; tables = t }) (begun_with old id t)
+      leaves-as s (Ok id) (record { answer = Ok id; tables = t }) (begun_with old id t)
       (sym (begun-by old id t true true (le-leb (length t.routes) 64 f.routes.fit.small) (le-leb (length t.discoveries) 32 f.discoveries.fit.small)))
       (record { said = refl; left = held }) where
         f : Fits t
@@ -82,21 +80,21 @@ module _ (now : ℕ) (old : Tables) (left : SearchTables) (h : Holds left (expir
   noted-left d v held = subst (λ (t : Tables). discovery.Holds v (put discovery_key d t.discoveries)) h.rows held
 
   pub leaves-marked : (id : ℕ) (destination : Nwk) (u : route.RouteTable) → route.Holds u (marked_routes destination (tables_of left).routes)
-      → Leaves (record { routes = u; discoveries = left.discoveries }) (Begun id) (begun_with old id (marked destination (expired now old)))
+      → Leaves (record { routes = u; discoveries = left.discoveries }) (Ok id) (begun_with old id (marked destination (expired now old)))
   leaves-marked id destination u held =
       leaves-begun (record { routes = u; discoveries = left.discoveries }) id (marked destination (expired now old))
       (both_hold (record { routes = u; discoveries = left.discoveries }) (marked destination (expired now old)) (marked-left destination u held)
       (record { formed = h.formed.discoveries; rows = ap (λ (t : Tables). t.discoveries) h.rows }))
 
   pub leaves-noted : (id : ℕ) (d : DiscoveryEntry) (v : discovery.DiscoveryTable) → discovery.Holds v (put discovery_key d (tables_of left).discoveries)
-      → Leaves (record { routes = left.routes; discoveries = v }) (Begun id) (begun_with old id (noted d (expired now old)))
+      → Leaves (record { routes = left.routes; discoveries = v }) (Ok id) (begun_with old id (noted d (expired now old)))
   leaves-noted id d v kept =
       leaves-begun (record { routes = left.routes; discoveries = v }) id (noted d (expired now old))
       (both_hold (record { routes = left.routes; discoveries = v }) (noted d (expired now old))
       (record { formed = h.formed.routes; rows = ap (λ (t : Tables). t.routes) h.rows }) (noted-left d v kept))
 
   pub leaves-both : (id : ℕ) (d : DiscoveryEntry) (destination : Nwk) (s : SearchTables) → route.Holds s.routes (marked_routes destination (tables_of left).routes)
-      → discovery.Holds s.discoveries (put discovery_key d (tables_of left).discoveries) → Leaves s (Begun id) (begun_with old id (noted d (marked destination (expired now old))))
+      → discovery.Holds s.discoveries (put discovery_key d (tables_of left).discoveries) → Leaves s (Ok id) (begun_with old id (noted d (marked destination (expired now old))))
   leaves-both id d destination s held kept =
       leaves-begun s id (noted d (marked destination (expired now old)))
       (both_hold s (noted d (marked destination (expired now old))) (marked-left destination s.routes held) (noted-left d s.discoveries kept))
@@ -132,12 +130,12 @@ module _ (now : ℕ) (s : SearchTables) (w : WellFormed s) where
 
 -- the rules, by what the expiry leaves under the pair
 module _ (own : Nwk) (id : ℕ) (now span : ℕ) (old : Tables) where
-  pub begun-known : (destination : Nwk) (d : DiscoveryEntry) → lookup discovery_key (pair_key own id) (keep (live now) old.discoveries) ≡ some d
+  pub begun-known : (destination : Nwk) (d : DiscoveryEntry) → lookup discovery_key (pair_key own id) (keep (live now) old.discoveries) ≡ Some d
       → begun old own id destination now span ≡ begun_with old id (marked destination (expired now old))
   unfolding begun begun_on begin expired
   begun-known destination d e = rw e
 
-  pub begun-new : (destination : Nwk) → lookup discovery_key (pair_key own id) (keep (live now) old.discoveries) ≡ none
+  pub begun-new : (destination : Nwk) → lookup discovery_key (pair_key own id) (keep (live now) old.discoveries) ≡ None
       → begun old own id destination now span ≡ by_time old (time_sum now span) id (began_new own id destination (expired now old))
   unfolding begun begun_on begin expired
   begun-new destination e = rw e

@@ -10,35 +10,26 @@ ghost use Rattle.standard.specs.Route.{route_key};
 ghost use Rattle.route_table.specs.Table as route;
 ghost use Rattle.discovery_table.specs.Table as discovery;
 ghost use Rattle.search_tables.specs.Packed.{in_columns, WellFormed, tables_of, InKey};
-ghost use Rattle.route_begin.specs.declared.BeginAnswer.TheVariants.{Refused};
 ghost use Rattle.route_begin.specs.Answer.{begun_with, by_time, begun, advertised, Leaves};
 ghost use Rattle.route_begin.specs.Marked.{marked_routes, marked, noted, began_new};
 
-use discovery_table::DiscoveryLookup;
 use standard::{DiscoveryEntry, Status};
-use types::{Nwk, Refusal, Sum};
-
-// What beginning is answered: a refusal, or the request id that goes into the command.
-#[derive(Clone, Copy)]
-pub enum BeginAnswer {
-    Refused(Refusal),
-    Begun(u8),
-}
+use types::{Nwk, Refusal};
 
 // The answer, and how many routes and discoveries there are after it.
 #[derive(Drop)]
 pub struct BeginResult {
-    pub answer: BeginAnswer,
+    pub answer: Result<u8, Refusal>,
     pub routes: usize,
     pub discoveries: usize,
 }
 
 // Nothing is written, and why.
 fn refuse(routes: usize, discoveries: usize, why: Refusal) -> BeginResult
-    ensures { result ≡ record { answer = Refused why; routes = routes; discoveries = discoveries } }
+    ensures { result ≡ record { answer = Err why; routes = routes; discoveries = discoveries } }
 {
     BeginResult {
-        answer: BeginAnswer::Refused(why),
+        answer: Err(why),
         routes,
         discoveries,
     }
@@ -158,7 +149,7 @@ fn begin_known(
         destination,
     );
     BeginResult {
-        answer: BeginAnswer::Begun(id),
+        answer: Ok(id),
         routes: n,
         discoveries: left.discoveries,
     }
@@ -237,7 +228,7 @@ fn begin_with(
         id,
     );
     BeginResult {
-        answer: BeginAnswer::Begun(id),
+        answer: Ok(id),
         routes: n,
         discoveries: m,
     }
@@ -265,7 +256,7 @@ fn begin_new(
 {
     let sum = types::time_sum(now_ms, span);
     match sum {
-        Sum::At(expires) => {
+        Some(expires) => {
             let d = discovery_entry::own_discovery(own, id, expires, destination);
             begin_with(
                 route_keys,
@@ -283,7 +274,7 @@ fn begin_new(
                 now_ms,
             )
         }
-        Sum::Past => refuse(routes, discoveries, Refusal::TimePastEnd),
+        None => refuse(routes, discoveries, Refusal::TimePastEnd),
     }
 }
 
@@ -317,7 +308,7 @@ pub fn begin(
         now_ms,
     );
     match found {
-        DiscoveryLookup::Found(_) => {
+        Some(_) => {
             begin_known(
                 route_keys,
                 route_words,
@@ -332,7 +323,7 @@ pub fn begin(
                 now_ms,
             )
         }
-        DiscoveryLookup::Missing => {
+        None => {
             begin_new(
                 route_keys,
                 route_words,
@@ -403,7 +394,7 @@ fn advertise_with(
         id,
     );
     BeginResult {
-        answer: BeginAnswer::Begun(id),
+        answer: Ok(id),
         routes: left.routes,
         discoveries: m,
     }
@@ -430,7 +421,7 @@ pub fn advertise(
 {
     let sum = types::time_sum(now_ms, span);
     match sum {
-        Sum::At(expires) => {
+        Some(expires) => {
             let d = discovery_entry::own_discovery(own, id, expires, Nwk(0xFFFC));
             advertise_with(
                 route_keys,
@@ -447,6 +438,6 @@ pub fn advertise(
                 now_ms,
             )
         }
-        Sum::Past => refuse(routes, discoveries, Refusal::TimePastEnd),
+        None => refuse(routes, discoveries, Refusal::TimePastEnd),
     }
 }

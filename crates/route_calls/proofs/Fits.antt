@@ -1,9 +1,9 @@
 -- Each call leaves routes that a table can hold: a put over a row that is there wants no room, a removal wants none, a step that would
 -- want more than 64 places is refused; and every field that a call writes is within its width.
+use Rattle.std.specs.Prelude.{Option, Some, None, unwrap_or}
 use Prim.Native.Nat.{ℕ, ◌<◌}
 use mathlib.Core.Bool.{Bool, true, false, cond}
 use mathlib.Core.List.{List}
-use mathlib.Core.Option.{Option, none, some, get_or}
 use mathlib.Core.Path.{◌≡◌, refl, sym, ◌∙◌}
 use native.Mathlib.Omega.{arith}
 use borrow.Author.Tests.{leb-true}
@@ -50,22 +50,22 @@ pub restored-in-range : (d hop : Nwk) (cost : ℕ) → hop.0 < 65536 → cost < 
 restored-in-range d hop cost h c = record { hop = h; cost = c; recent = omega arith }
 
 module _ (xs : List RouteEntry) (f : Fits xs) where
-  pub found-in-range : (k : ℕ) (e : RouteEntry) → lookup route_key k xs ≡ some e → InRange e
+  pub found-in-range : (k : ℕ) (e : RouteEntry) → lookup route_key k xs ≡ Some e → InRange e
   found-in-range k e q = each-found route_key InRange k xs e f.ranged q
 
   pub route-or-in-range : (d : Nwk) → InRange (route_or d xs)
   route-or-in-range d = go (lookup route_key d.0 xs) refl where
-    go : (o : Option RouteEntry) → lookup route_key d.0 xs ≡ o → InRange (get_or o (new_route d Inactive unknown_hop))
-    go none q = record { hop = omega arith; cost = omega arith; recent = omega arith }
-    go (some e) q = found-in-range d.0 e q
+    go : (o : Option RouteEntry) → lookup route_key d.0 xs ≡ o → InRange (unwrap_or o (new_route d Inactive unknown_hop))
+    go None q = record { hop = omega arith; cost = omega arith; recent = omega arith }
+    go (Some e) q = found-in-range d.0 e q
 
   -- one route changed, if it is there
   pub change-fits : (change : RouteEntry → RouteEntry) → KeepsKey change → KeepsRange change → (k : ℕ) → Fits (change_route k change xs)
   unfolding change_route
   change-fits change same within k = go (lookup route_key k xs) refl where
     go : (o : Option RouteEntry) → lookup route_key k xs ≡ o → Fits (put_back route_key change o xs)
-    go none q = f
-    go (some e) q =
+    go None q = f
+    go (Some e) q =
         fits-put xs f (change e) (within e (found-in-range k e q))
         (rw (same e ∙ lookup_key route_key k xs e q) (room-known 64 route_key blank_route xs f.fit k e q))
 

@@ -1,9 +1,9 @@
 -- A change that keeps the key is one put over the row found, at the place where it stands; without a row it leaves the rows as they are.
 -- A row put is refused by the count of rows that it would make, and a removal leaves fewer rows exactly where there was one.
+use Rattle.std.specs.Prelude.{Option, Some, None, Result, Ok, Err}
 use Prim.Native.Nat.{ℕ, suc, ◌+◌, ◌<◌, ◌≤◌}
 use mathlib.Core.Bool.{Bool, true, false, cond}
 use mathlib.Core.List.{List, [], ◌∷◌}
-use mathlib.Core.Option.{Option, none, some}
 use mathlib.Core.Path.{◌≡◌, refl, sym, ap, ◌∙◌}
 use native.Mathlib.Omega.{arith}
 use borrow.Author.Tests.{lt-ltb, le-ltb}
@@ -17,8 +17,6 @@ use Rattle.standard.specs.Calls.{change_route, has_route, sought}
 use Rattle.standard.specs.Ordered.{Ascending, lookup, put, remove, count_with}
 use Rattle.standard.specs.Query.{is_there}
 use Rattle.standard.specs.Route.{is_active, route_key, with_status, used, record_known}
-use Rattle.flat_map.specs.declared.Place.{Place}
-use Rattle.flat_map.specs.declared.Place.TheVariants.{Found, Missing}
 use Rattle.flat_map.specs.Seek.{place_of}
 use Rattle.flat_map.proofs.Compare.{Tri, lt, eq, gt, tri}
 use Rattle.flat_map.proofs.Ordered.{lookup_key, lookup-none, lookup-past, length-put, none-some, remove-here, remove-past}
@@ -31,7 +29,6 @@ use Rattle.route_table.specs.Codec.{route_numbers, route_in, route_of, Clean, In
 use Rattle.route_table.specs.Table.{RouteTable, blank_route, WellFormed, rows_of, Holds}
 use Rattle.route_table.proofs.Codec.{codec}
 use Rattle.route_table.proofs.Rows.{table-sound, flat-table, found-row, missing-row}
-use Rattle.route_calls.specs.declared.RouteAnswer.TheVariants.{Refused, Done}
 use Rattle.route_calls.specs.Answer.{step_to}
 
 -- a change that leaves the destination
@@ -56,7 +53,7 @@ sought-key e = kept-or (is_active e.status) e _ refl
 
 -- a change at the place of its key
 module _ (t : RouteTable) (w : WellFormed t) (k i : ℕ) (change : RouteEntry → RouteEntry) where
-  pub left-as-is : Missing i ≡ place_of (take t.count t.keys) k → Holds t (change_route k change (rows_of t))
+  pub left-as-is : Err i ≡ place_of (take t.count t.keys) k → Holds t (change_route k change (rows_of t))
   unfolding change_route
   left-as-is p = record {
     formed = w;
@@ -64,15 +61,15 @@ module _ (t : RouteTable) (w : WellFormed t) (k i : ℕ) (change : RouteEntry �
   }
 
   module _
-      (p : Found i ≡ place_of (take t.count t.keys) k)
+      (p : Ok i ≡ place_of (take t.count t.keys) k)
       (e f : RouteEntry)
       (read : e ≡ route_in (get_or t.keys i 0) (get_or t.words i 0) (get_or t.usage i 0))
       (q : f ≡ change e)
     where
-      row : lookup route_key k (rows_of t) ≡ some e
-      row = found-row t w k i p ∙ ap some (sym read)
+      row : lookup route_key k (rows_of t) ≡ Some e
+      row = found-row t w k i p ∙ ap Some (sym read)
 
-      pub change-place : KeepsKey change → Found i ≡ place_of (take t.count t.keys) (route_key f)
+      pub change-place : KeepsKey change → Ok i ≡ place_of (take t.count t.keys) (route_key f)
       change-place same = p ∙ ap (place_of (take t.count t.keys)) (sym (ap route_key q ∙ same e ∙ lookup_key route_key k (rows_of t) e row))
 
       pub changed : (u : RouteTable) → Holds u (put route_key f (rows_of t)) → Holds u (change_route k change (rows_of t))
@@ -87,7 +84,7 @@ module _ (t : RouteTable) (w : WellFormed t) (k i : ℕ) (change : RouteEntry �
 
 -- the outcome by the room that the rows want, and the room that a row put wants
 pub step_by : (old xs : List RouteEntry) (b : Bool) → leb (length xs) 64 ≡ b
-    → step_to old xs ≡ cond b (record { answer = Done; rows = xs }) (record { answer = Refused RouteTableFull; rows = old })
+    → step_to old xs ≡ cond b (record { answer = Ok tt; rows = xs }) (record { answer = Err RouteTableFull; rows = old })
 unfolding step_to
 step_by old xs b p = rw p
 
@@ -95,17 +92,17 @@ pub put-room : (xs : List RouteEntry) → Ascending route_key xs → (e : RouteE
 put-room xs a e = ap (λ (n : ℕ). leb n 64) (length-put route_key e xs a)
 
 -- the place of a destination tells that room
-pub place-room : (t : RouteTable) → WellFormed t → (k : ℕ) (p : Place) → p ≡ place_of (take t.count t.keys) k → leb (count_with route_key k (rows_of t)) 64 ≡ room_for p t.count 64
+pub place-room : (t : RouteTable) → WellFormed t → (k : ℕ) (p : Result ℕ ℕ) → p ≡ place_of (take t.count t.keys) k → leb (count_with route_key k (rows_of t)) 64 ≡ room_for p t.count 64
 place-room t w k p q = rows.room-told 64 3 route_key blank_route route_of route_numbers Clean InRange codec t.keys (t.words ∷ t.usage ∷ []) t.count (table-sound t w) k p q
 
 -- fewer routes are left exactly where there was one
-one_less : (k : ℕ) (e : RouteEntry) (xs : List RouteEntry) → lookup route_key k xs ≡ some e → length (remove route_key k xs) < length xs
+one_less : (k : ℕ) (e : RouteEntry) (xs : List RouteEntry) → lookup route_key k xs ≡ Some e → length (remove route_key k xs) < length xs
 one_less k e [] h = absurd (none-some e (sym (lookup-none route_key k) ∙ h))
 one_less k e (x ∷ xs) h = go (tri (route_key x) k) (λ q. one_less k e xs q) where
-  past : (route_key x ≡ k → ⊥) → (lookup route_key k xs ≡ some e → length (remove route_key k xs) < length xs) → length (remove route_key k (x ∷ xs)) < suc (length xs)
+  past : (route_key x ≡ k → ⊥) → (lookup route_key k xs ≡ Some e → length (remove route_key k xs) < length xs) → length (remove route_key k (x ∷ xs)) < suc (length xs)
   past n ih = rw (remove-past route_key k x xs n) (omega (arith, ih (sym (lookup-past route_key k x xs n) ∙ h)))
 
-  go : Tri (route_key x) k → (lookup route_key k xs ≡ some e → length (remove route_key k xs) < length xs) → length (remove route_key k (x ∷ xs)) < suc (length xs)
+  go : Tri (route_key x) k → (lookup route_key k xs ≡ Some e → length (remove route_key k xs) < length xs) → length (remove route_key k (x ∷ xs)) < suc (length xs)
   go (lt p) ih = past (λ q. omega arith) ih
   go (eq p) ih = rw (remove-here route_key k x xs p) (omega arith)
   go (gt p) ih = past (λ q. omega arith) ih
@@ -114,8 +111,8 @@ pub fewer-told : (k : ℕ) (xs : List RouteEntry) → ltb (length (remove route_
 unfolding has_route
 fewer-told k xs = go (lookup route_key k xs) refl where
   go : (o : Option RouteEntry) → lookup route_key k xs ≡ o → ltb (length (remove route_key k xs)) (length xs) ≡ is_there o
-  go none h = le-ltb (length (remove route_key k xs)) (length xs) (omega (arith, ap length (remove_absent route_key blank_route k xs h)))
-  go (some e) h = lt-ltb (length (remove route_key k xs)) (length xs) (one_less k e xs h)
+  go None h = le-ltb (length (remove route_key k xs)) (length xs) (omega (arith, ap length (remove_absent route_key blank_route k xs h)))
+  go (Some e) h = lt-ltb (length (remove route_key k xs)) (length xs) (one_less k e xs h)
 
 -- the routes left, gone through one after the other
 module _ (t : RouteTable) (w : WellFormed t) (i : ℕ) where

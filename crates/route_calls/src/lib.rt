@@ -2,7 +2,6 @@
 #![tactic(auto)]
 
 ghost use Rattle.std.specs.Prelude.{◌≡◌, take};
-ghost use Rattle.std.proofs.Math.Option.{some};
 ghost use Rattle.flat_map.specs.Seek.{place_of};
 ghost use Rattle.standard.specs.declared.Status.TheVariants.{DiscoveryFailed};
 ghost use Rattle.standard.specs.Calls.{change_route, restored, restore_route, sought, note_relayed, status_at, active_hop, hop_at, lacks_hop, is_faulty, first_fault};
@@ -10,27 +9,18 @@ ghost use Rattle.standard.specs.Ordered.{put};
 ghost use Rattle.standard.specs.Route.{route_key, with_status, used, record_known};
 ghost use Rattle.discovery_table.specs.Table as discovery;
 ghost use Rattle.route_table.specs.Table.{in_columns, WellFormed, rows_of, Holds};
-ghost use Rattle.route_calls.specs.Answer.{step_to, Leaves, LeavesWithout, status_answer, hop_answer, fault_of, checked_by};
+ghost use Rattle.route_calls.specs.Answer.{step_to, Leaves, LeavesWithout, hop_answer, fault_of, checked_by};
 
-use flat_map::Place;
-use route_table::RouteLookup;
 use standard::{RouteEntry, Status};
 use types::{Nwk, Refusal};
 
 // The address that stands for a hop not known.
 const UNKNOWN_HOP: u16 = 0xFFFF;
 
-// What a call that may need a new route is answered.
-#[derive(Drop)]
-pub enum RouteAnswer {
-    Refused(Refusal),
-    Done,
-}
-
 // The answer, and how many routes there are after it.
 #[derive(Drop)]
 pub struct RouteResult {
-    pub answer: RouteAnswer,
+    pub answer: Result<(), Refusal>,
     pub routes: usize,
 }
 
@@ -39,21 +29,6 @@ pub struct RouteResult {
 pub struct Removed {
     pub removed: bool,
     pub routes: usize,
-}
-
-// How a route stands, where there is one.
-#[derive(Drop)]
-pub enum StatusAnswer {
-    Absent,
-    Is(Status),
-}
-
-// The hop of an Active route; a hop that is not known is no hop to send to.
-#[derive(Drop)]
-pub enum HopAnswer {
-    NoRoute,
-    Hop(Nwk),
-    Unknown,
 }
 
 // What the check says: the first fault's kind and destination.
@@ -75,13 +50,8 @@ pub fn mark_discovery_failed(
     requires { WellFormed (in_columns route_keys.now route_words.old route_usage.old routes) }
     ensures { Holds (in_columns route_keys.now route_words.new route_usage.new routes) (change_route destination.0 (with_status DiscoveryFailed) (rows_of (in_columns route_keys.now route_words.old route_usage.old routes))) }
 {
-    let Place::Found(i) = route_table::place_of(
-        route_keys,
-        route_words,
-        route_usage,
-        routes,
-        destination,
-    ) else {
+    let Ok(i) = route_table::place_of(route_keys, route_words, route_usage, routes, destination)
+    else {
         return;
     };
     let e = route_table::entry_at(route_keys, route_words, route_usage, i);
@@ -106,13 +76,8 @@ pub fn record_usage(
     requires { WellFormed (in_columns route_keys.now route_words.old route_usage.old routes) }
     ensures { Holds (in_columns route_keys.now route_words.new route_usage.new routes) (change_route destination.0 used (rows_of (in_columns route_keys.now route_words.old route_usage.old routes))) }
 {
-    let Place::Found(i) = route_table::place_of(
-        route_keys,
-        route_words,
-        route_usage,
-        routes,
-        destination,
-    ) else {
+    let Ok(i) = route_table::place_of(route_keys, route_words, route_usage, routes, destination)
+    else {
         return;
     };
     let e = route_table::entry_at(route_keys, route_words, route_usage, i);
@@ -137,13 +102,8 @@ pub fn note_source_routed_frame(
     requires { WellFormed (in_columns route_keys.now route_words.old route_usage.old routes) }
     ensures { Holds (in_columns route_keys.now route_words.new route_usage.new routes) (change_route concentrator.0 record_known (rows_of (in_columns route_keys.now route_words.old route_usage.old routes))) }
 {
-    let Place::Found(i) = route_table::place_of(
-        route_keys,
-        route_words,
-        route_usage,
-        routes,
-        concentrator,
-    ) else {
+    let Ok(i) = route_table::place_of(route_keys, route_words, route_usage, routes, concentrator)
+    else {
         return;
     };
     let e = route_table::entry_at(route_keys, route_words, route_usage, i);
@@ -183,7 +143,7 @@ fn store(
     route_words: &mut [u64],
     route_usage: &mut [u32],
     routes: usize,
-    place: Place,
+    place: Result<usize, usize>,
     e: RouteEntry,
 ) -> RouteResult
     requires { WellFormed (in_columns route_keys.old route_words.old route_usage.old routes) × (place ≡ place_of (take routes route_keys.old) (route_key e)) }
@@ -191,13 +151,13 @@ fn store(
 {
     if !columns::has_room(place, routes, 64) {
         return RouteResult {
-            answer: RouteAnswer::Refused(Refusal::RouteTableFull),
+            answer: Err(Refusal::RouteTableFull),
             routes,
         };
     }
     let n = route_table::put_at(route_keys, route_words, route_usage, routes, place, e);
     RouteResult {
-        answer: RouteAnswer::Done,
+        answer: Ok(()),
         routes: n,
     }
 }
@@ -257,36 +217,31 @@ pub fn route_status(
     route_usage: &[u32],
     routes: usize,
     destination: Nwk,
-) -> StatusAnswer
+) -> Option<Status>
     requires { WellFormed (in_columns route_keys.now route_words.now route_usage.now routes) }
-    ensures { result ≡ status_answer (status_at destination.0 (rows_of (in_columns route_keys.now route_words.now route_usage.now routes))) }
+    ensures { result ≡ status_at destination.0 (rows_of (in_columns route_keys.now route_words.now route_usage.now routes)) }
 {
-    let RouteLookup::Found(e) = route_table::find(
-        route_keys,
-        route_words,
-        route_usage,
-        routes,
-        destination,
-    ) else {
-        return StatusAnswer::Absent;
+    let Some(e) = route_table::find(route_keys, route_words, route_usage, routes, destination)
+    else {
+        return None;
     };
     let s = e.status;
-    StatusAnswer::Is(s)
+    Some(s)
 }
 
 // The hop of a route that was found.
-fn hop_of(e: RouteEntry) -> HopAnswer
-    ensures { result ≡ hop_answer (active_hop (some e)) }
+fn hop_of(e: RouteEntry) -> Result<Option<Nwk>, Refusal>
+    ensures { result ≡ hop_answer (active_hop (Some e)) }
 {
     let s = e.status;
     if !route_entry::is_active(s) {
-        return HopAnswer::NoRoute;
+        return Ok(None);
     }
     let hop = e.next_hop_address;
     if hop.0 == UNKNOWN_HOP {
-        return HopAnswer::Unknown;
+        return Err(Refusal::UnknownNextHop);
     }
-    HopAnswer::Hop(hop)
+    Ok(Some(hop))
 }
 
 // The next hop to a destination, by its Active route.
@@ -296,18 +251,13 @@ pub fn next_hop(
     route_usage: &[u32],
     routes: usize,
     destination: Nwk,
-) -> HopAnswer
+) -> Result<Option<Nwk>, Refusal>
     requires { WellFormed (in_columns route_keys.now route_words.now route_usage.now routes) }
     ensures { result ≡ hop_answer (hop_at destination.0 (rows_of (in_columns route_keys.now route_words.now route_usage.now routes))) }
 {
-    let RouteLookup::Found(e) = route_table::find(
-        route_keys,
-        route_words,
-        route_usage,
-        routes,
-        destination,
-    ) else {
-        return HopAnswer::NoRoute;
+    let Some(e) = route_table::find(route_keys, route_words, route_usage, routes, destination)
+    else {
+        return Ok(None);
     };
     hop_of(e)
 }
@@ -391,8 +341,7 @@ pub fn check(
     requires { WellFormed (in_columns route_keys.now route_words.now route_usage.now routes) × discovery.WellFormed (discovery.in_columns discovery_keys.now discovery_words.now discovery_ends.now discoveries) }
     ensures { result ≡ checked_by (first_fault (discovery.rows_of (discovery.in_columns discovery_keys.now discovery_words.now discovery_ends.now discoveries)) (rows_of (in_columns route_keys.now route_words.now route_usage.now routes))) }
 {
-    let mut i: usize = 0;
-    while i < routes {
+    for i in 0..routes {
         let e = route_table::entry_at(route_keys, route_words, route_usage, i);
         if is_faulty(
             e,
@@ -403,7 +352,6 @@ pub fn check(
         ) {
             return fault_of(e);
         }
-        i += 1;
     }
     Checked::Sound
 }

@@ -5,29 +5,19 @@ ghost use Rattle.std.specs.Prelude.{◌≡◌};
 ghost use Rattle.standard.specs.Route.{is_active, is_underway, new_route, with_status, via, suits, considered, considering, news, used, record_known};
 ghost use Rattle.standard.specs.Request.{concentrator, flagged};
 
-use standard::{ManyToOne, RouteEntry, RouteUpdate, Status, Update};
+use standard::{ManyToOne, RouteEntry, RouteUpdate, Status};
 use types::Nwk;
 
 pub fn is_active(s: Status) -> bool
     ensures { result ≡ is_active s }
 {
-    match s {
-        Status::Active => true,
-        Status::DiscoveryUnderway => false,
-        Status::DiscoveryFailed => false,
-        Status::Inactive => false,
-    }
+    s == Status::Active
 }
 
 pub fn is_underway(s: Status) -> bool
     ensures { result ≡ is_underway s }
 {
-    match s {
-        Status::Active => false,
-        Status::DiscoveryUnderway => true,
-        Status::DiscoveryFailed => false,
-        Status::Inactive => false,
-    }
+    s == Status::DiscoveryUnderway
 }
 
 // A route that is made new.
@@ -95,15 +85,15 @@ fn suits(e: RouteEntry, cost: u8) -> bool
 }
 
 // What writing a hop over the route reports: nothing where it is Active by that hop already.
-pub fn news(e: RouteEntry, next_hop: Nwk, cost: u8) -> Update
+pub fn news(e: RouteEntry, next_hop: Nwk, cost: u8) -> Option<RouteUpdate>
     ensures { result ≡ news next_hop cost e }
 {
     let s = e.status;
     let destination = e.destination;
-    if is_active(s) & (e.next_hop_address.0 == next_hop.0) {
-        return Update::Same;
+    if is_active(s) & (e.next_hop_address == next_hop) {
+        return None;
     }
-    Update::Changed(RouteUpdate {
+    Some(RouteUpdate {
         destination,
         next_hop,
         path_cost: cost,
@@ -121,13 +111,13 @@ pub fn considered(e: RouteEntry, next_hop: Nwk, cost: u8) -> RouteEntry
 }
 
 // What a candidate reports.
-pub fn considering(e: RouteEntry, next_hop: Nwk, cost: u8) -> Update
+pub fn considering(e: RouteEntry, next_hop: Nwk, cost: u8) -> Option<RouteUpdate>
     ensures { result ≡ considering next_hop cost e }
 {
     if suits(e, cost) {
         return news(e, next_hop, cost);
     }
-    Update::Same
+    None
 }
 
 // The route after a frame was forwarded along it.
@@ -135,8 +125,8 @@ pub fn used(e: RouteEntry) -> RouteEntry
     ensures { result ≡ used e }
 {
     let mut u = e;
-    u.total_usage_count = types::saturating_add_u32(e.total_usage_count, 1);
-    u.recent_activity = types::saturating_add_u8(e.recent_activity, 1);
+    u.total_usage_count = e.total_usage_count.saturating_add(1);
+    u.recent_activity = e.recent_activity.saturating_add(1);
     u
 }
 

@@ -1,5 +1,6 @@
 -- What the place of a key tells of the room for a row under it, and the state of columns that hold rows: that of the rows.
 -- The room for a route is told by `place-room` of the calls on routes, and its state by `held-routes` of the routing state.
+use Rattle.std.specs.Prelude.{Result}
 use Prim.Native.Nat.{ℕ}
 use mathlib.Core.List.{List, [], ◌∷◌}
 use mathlib.Core.Path.{◌≡◌, sym, ap, ◌∙◌}
@@ -11,7 +12,6 @@ use Rattle.standard.specs.Discovery.{discovery_key}
 use Rattle.standard.specs.Ordered.{put, count_with}
 use Rattle.standard.specs.Record.{record_key}
 use Rattle.standard.specs.Records.{RouteRecord, address_key}
-use Rattle.flat_map.specs.declared.Place.{Place}
 use Rattle.flat_map.specs.Seek.{place_of}
 use Rattle.flat_map.proofs.Ordered.{length-put}
 use Rattle.columns.specs.Room.{room_for}
@@ -33,7 +33,7 @@ use Rattle.routing.specs.Records.{with_records}
 use Rattle.route_loads.specs.Loads.{with_discovery_table, with_record_table}
 
 -- a discovery
-pub discovery-room : (t : discoveries.DiscoveryTable) → discoveries.WellFormed t → (k : ℕ) (p : Place) → p ≡ place_of (take t.count t.keys) k
+pub discovery-room : (t : discoveries.DiscoveryTable) → discoveries.WellFormed t → (k : ℕ) (p : Result ℕ ℕ) → p ≡ place_of (take t.count t.keys) k
     → leb (count_with discovery_key k (discoveries.rows_of t)) 32 ≡ room_for p t.count 32
 discovery-room t w k p q =
     room-told 32 3 discovery_key discoveries.blank_discovery discovery-codec.discovery_of discovery-codec.discovery_numbers discovery-codec.Clean discovery-codec.InRange discovery-law.codec
@@ -51,7 +51,7 @@ module _ (t : records.RecordTable) (store : List ℕ) (g : Together t store) (x 
       ∙ ap (λ (es : List RecordEntry). length (put record_key (entry_of x) es)) (entries-back t store g.formed g.agrees)
       ∙ length-put record_key (entry_of x) (records.rows_of t) (record-rows.table-fit t g.formed).fit.ascending
 
-  pub record-room : (p : Place) → p ≡ place_of (take t.count t.keys) (address_key x) → leb (length (put address_key x (records_of t store))) 64 ≡ room_for p t.count 64
+  pub record-room : (p : Result ℕ ℕ) → p ≡ place_of (take t.count t.keys) (address_key x) → leb (length (put address_key x (records_of t store))) 64 ≡ room_for p t.count 64
   record-room p q =
       ap (λ (n : ℕ). leb n 64) many
       ∙ room-told 64 2 record_key records.blank_record record-codec.record_of record-codec.record_numbers record-codec.Clean record-codec.InRange record-law.codec

@@ -15,18 +15,16 @@ fn row_relays(store: &[u16], i: usize, count: usize) -> RelayList
     requires { i < 64 }
     ensures { result ≡ relays_held store.now i count }
 {
-    let n = numbers::at_most(count, 32);
+    let n = count.min(32);
     let from = 32 * i;
     let mut l = relay_store::no_relays();
     l.count = n;
-    let mut j: usize = 0;
-    while j < n {
+    for j in 0..n {
         if store.len() <= from + j {
             return l;
         }
         let a = Nwk(store[from + j]);
         l.addresses[j] = a;
-        j += 1;
     }
     l
 }
@@ -85,7 +83,7 @@ fn record_line(s: Routing, i: usize, store: &[u16]) -> Answer
 fn from_records(s: Routing, i: usize, store: &[u16]) -> Answer
     ensures { result ≡ spoken (line_said (record_lines (record_table s) store.now) i) }
 {
-    let n = numbers::at_most(s.records, 64);
+    let n = s.records.min(64);
     if n <= i {
         return numbers::no_call();
     }
@@ -96,7 +94,7 @@ fn from_records(s: Routing, i: usize, store: &[u16]) -> Answer
 fn from_discoveries(s: Routing, i: usize, store: &[u16]) -> Answer
     ensures { result ≡ spoken (line_said (after_routes s store.now) i) }
 {
-    let n = numbers::at_most(s.discoveries, 32);
+    let n = s.discoveries.min(32);
     if i < n {
         return discovery_line(s, i);
     }
@@ -107,7 +105,7 @@ fn from_discoveries(s: Routing, i: usize, store: &[u16]) -> Answer
 fn from_routes(s: Routing, i: usize, store: &[u16]) -> Answer
     ensures { result ≡ spoken (line_said (route_lines (route_table s) ++ after_routes s store.now) i) }
 {
-    let n = numbers::at_most(s.routes, 64);
+    let n = s.routes.min(64);
     if i < n {
         return route_line(s, i);
     }
@@ -128,8 +126,8 @@ pub fn line(s: Routing, i: usize, store: &[u16]) -> Answer
 pub fn line_count(s: Routing) -> usize
     ensures { result ≡ line_count s }
 {
-    let a = numbers::at_most(s.routes, 64);
-    let b = numbers::at_most(s.discoveries, 32);
-    let c = numbers::at_most(s.records, 64);
+    let a = s.routes.min(64);
+    let b = s.discoveries.min(32);
+    let c = s.records.min(64);
     1 + (a + (b + c))
 }

@@ -1,10 +1,10 @@
 -- A source among its own relays is changed each time: as a relay it gets the relays after its last place,
 -- which are fewer than all, so that its record never names the whole list when the two are compared.
+use Rattle.std.specs.Prelude.{Some}
 use Prim.Native.Nat.{ℕ, ◌<◌}
 use native.Mathlib.Omega.{arith}
 use mathlib.Core.Bool.{Bool, true, false, not, false≢true}
 use mathlib.Core.List.{List, [], ◌∷◌}
-use mathlib.Core.Option.{some}
 use mathlib.Core.Path.{◌≡◌, refl, sym, ap, ◌∙◌}
 use borrow.Author.Tests.{eqb-true, eqb-false}
 use lib.Dec.{eqb}
@@ -29,7 +29,7 @@ stored_other k (r ∷ rs) xs e =
 record Fewer (k : ℕ) (relays : List Nwk) (xs : List RouteRecord) : Type 0 where
   pub x : RouteRecord
   pub fewer : length x.relays < length relays
-  pub held : lookup address_key k (relays_stored relays xs) ≡ some x
+  pub held : lookup address_key k (relays_stored relays xs) ≡ Some x
 
 stored-among : (k : ℕ) (relays : List Nwk) (xs : List RouteRecord) → among k relays ≡ true → Fewer k relays xs
 unfolding relays_stored

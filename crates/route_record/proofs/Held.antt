@@ -1,9 +1,9 @@
 -- A table and its store, seen as the records that they hold: what a look-up of a place says of them,
 -- and that a step on the table and on the rows is the step on the records.
+use Rattle.std.specs.Prelude.{Some, None, Result, Ok, Err}
 use Prim.Native.Nat.{ℕ, ◌-◌, ◌<◌, ◌≤◌}
 use native.Mathlib.Omega.{arith}
 use mathlib.Core.List.{List, [], map}
-use mathlib.Core.Option.{none, some}
 use mathlib.Core.Path.{◌≡◌, sym, ap, ◌∙◌}
 use lib.ListN.{length, take, drop, get_or, length-map, length-drop}
 use lib.Seq.{length-take-le}
@@ -14,8 +14,6 @@ use Rattle.standard.specs.Ordered.{lookup, put, remove, count_with}
 use Rattle.standard.specs.Query.{entry_at}
 use Rattle.standard.specs.Record.{record_key}
 use Rattle.standard.specs.Records.{RouteRecord, ShortWay, address_key, record_for}
-use Rattle.flat_map.specs.declared.Place.{Place}
-use Rattle.flat_map.specs.declared.Place.TheVariants.{Found, Missing}
 use Rattle.flat_map.specs.Seek.{place_of}
 use Rattle.flat_map.specs.Shift.{shift_out}
 use Rattle.flat_map.proofs.Ordered.{length-put}
@@ -64,7 +62,7 @@ module _ (t : RecordTable) (s : List ℕ) (g : Together t s) where
   rows = packing.rows_back t s g.formed g.agrees
 
   -- a destination that is missing has no record
-  pub missing : (k i : ℕ) → Missing i ≡ place_of (take t.count t.keys) k → lookup address_key k (records_of t s) ≡ none
+  pub missing : (k i : ℕ) → Err i ≡ place_of (take t.count t.keys) k → lookup address_key k (records_of t s) ≡ None
   missing k i p = steps.missing-record (records_of t s) fits k i (p ∙ place k)
 
   -- the entry in a place
@@ -89,22 +87,22 @@ module _ (t : RecordTable) (s : List ℕ) (g : Together t s) where
   record-count = sym (length-map (records_of t s) entry_of) ∙ ap length entries ∙ table.many t g.formed
 
   -- so the record at a place is that of its entry and its row, and there is none from the count on
-  pub record-there : (i : ℕ) → i < t.count → entry_at i (records_of t s) ≡ some (record_by (held i) (row_at i s))
-  record-there i h = entry-there blank_route_record (records_of t s) i (omega (arith, record-count)) ∙ ap some (use-record i h)
+  pub record-there : (i : ℕ) → i < t.count → entry_at i (records_of t s) ≡ Some (record_by (held i) (row_at i s))
+  record-there i h = entry-there blank_route_record (records_of t s) i (omega (arith, record-count)) ∙ ap Some (use-record i h)
 
-  pub record-past : (i : ℕ) → t.count ≤ i → entry_at i (records_of t s) ≡ none
+  pub record-past : (i : ℕ) → t.count ≤ i → entry_at i (records_of t s) ≡ None
   record-past i h = entry_past blank_route_record (records_of t s) i (omega (arith, record-count))
 
   -- and so has a destination that is found
-  module _ (k i : ℕ) (p : Found i ≡ place_of (take t.count t.keys) k) where
+  module _ (k i : ℕ) (p : Ok i ≡ place_of (take t.count t.keys) k) where
     pub in_use : i < t.count
     in_use = table.place-within t g.formed k i p
 
     pub within : i < 64
     within = use-within i in_use
 
-    pub found : lookup address_key k (records_of t s) ≡ some (record_by (held i) (row_at i s))
-    found = steps.found-record (records_of t s) fits k i (p ∙ place k) ∙ ap some (use-record i in_use)
+    pub found : lookup address_key k (records_of t s) ≡ Some (record_by (held i) (row_at i s))
+    found = steps.found-record (records_of t s) fits k i (p ∙ place k) ∙ ap Some (use-record i in_use)
 
     pub found-there : entry_at i (records_of t s) ≡ lookup address_key k (records_of t s)
     found-there = record-there i in_use ∙ sym found
@@ -120,10 +118,10 @@ module _ (t : RecordTable) (s : List ℕ) (g : Together t s) where
 
   -- a record put
   module _ (x : RouteRecord) (room : length (put address_key x (records_of t s)) ≤ 64) where
-    pub put-place : (p : Place) → p ≡ place_of (take t.count t.keys) (address_key x) → PlaceWithin p
+    pub put-place : (p : Result ℕ ℕ) → p ≡ place_of (take t.count t.keys) (address_key x) → PlaceWithin p
     put-place p e = steps.put-within (records_of t s) fits x room p (e ∙ place (address_key x))
 
-    put-store : (p : Place) → p ≡ place_of (take t.count t.keys) (address_key x)
+    put-store : (p : Result ℕ ℕ) → p ≡ place_of (take t.count t.keys) (address_key x)
         → on_rows (row_put p (row_of x.relays)) s ≡ store_for (put address_key x (records_of t s))
     put-store p e =
         ap (λ (r : List (List ℕ)). flat (row_put p (row_of x.relays) r)) (sym rows)
@@ -137,7 +135,7 @@ module _ (t : RecordTable) (s : List ℕ) (g : Together t s) where
         omega (arith, length-put record_key (entry_of x) (rows_of t) (table-fit t g.formed).fit.ascending, ap length put_entries, length-map (put address_key x (records_of t s)) entry_of, room)
 
     -- its row put at the place and its entry put: both hold the records with this one put
-    pub put_holds : ShortWay x → (p : Place) → p ≡ place_of (take t.count t.keys) (address_key x) → (e : RecordEntry) → e ≡ entry_of x → (u : RecordTable) (after : List ℕ)
+    pub put_holds : ShortWay x → (p : Result ℕ ℕ) → p ≡ place_of (take t.count t.keys) (address_key x) → (e : RecordEntry) → e ≡ entry_of x → (u : RecordTable) (after : List ℕ)
         → Holds u (put record_key e (rows_of t)) → after ≡ on_rows (row_put p (row_of x.relays)) s → HoldsRecords u after (put address_key x (records_of t s))
     put_holds short p o e is u after h q =
         holding (put address_key x (records_of t s)) (steps.fits-put (records_of t s) fits x room short) u after
@@ -145,7 +143,7 @@ module _ (t : RecordTable) (s : List ℕ) (g : Together t s) where
         (q ∙ put-store p o)
 
   -- a record removed: its row and its entry taken out
-  pub remove-holds : (k i : ℕ) → Found i ≡ place_of (take t.count t.keys) k → (u : RecordTable) (after : List ℕ)
+  pub remove-holds : (k i : ℕ) → Ok i ≡ place_of (take t.count t.keys) k → (u : RecordTable) (after : List ℕ)
       → Holds u (remove record_key k (rows_of t)) → after ≡ on_rows (shift_out i blank_row) s → HoldsRecords u after (remove address_key k (records_of t s))
   remove-holds k i p u after h q =
       holding (remove address_key k (records_of t s)) (steps.fits-remove (records_of t s) fits k) u after

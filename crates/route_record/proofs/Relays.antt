@@ -1,11 +1,11 @@
 -- Lists of relays taken apart one relay at a time, compared from the front, and what their number says of the way.
 -- Each law is read off the definition.
+use Rattle.std.specs.Prelude.{Some}
 use Prim.Native.Nat.{ℕ, suc, ◌+◌, ◌<◌, ◌≤◌}
 use native.Mathlib.Numerals.{add-one}
 use native.Mathlib.Omega.{arith}
 use mathlib.Core.Bool.{Bool, true, false, ◌&&◌}
 use mathlib.Core.List.{List, [], ◌∷◌, ◌++◌, map}
-use mathlib.Core.Option.{some}
 use mathlib.Core.Path.{◌≡◌, refl, ap, ◌∙◌}
 use borrow.Author.Tests.{eq-eqb, ne_eqb, lt-ltb, le-ltb}
 use lib.Dec.{eqb}
@@ -76,11 +76,11 @@ row-relays n row w h = length-map (take n row) nwk ∙ length-take-le n row (ome
 
 -- the way by the number of relays
 module _ (limit : ℕ) (x : RouteRecord) where
-  pub way-direct : length x.relays ≡ 0 → way_by limit (some x) ≡ record { route = Direct; relays = [] }
+  pub way-direct : length x.relays ≡ 0 → way_by limit (Some x) ≡ record { route = Some Direct; relays = [] }
   way-direct h = rw (eq-eqb (length x.relays) 0 h)
 
-  pub way-short : (length x.relays ≡ 0 → ⊥) → length x.relays < limit → way_by limit (some x) ≡ record { route = SourceRoute; relays = x.relays }
+  pub way-short : (length x.relays ≡ 0 → ⊥) → length x.relays < limit → way_by limit (Some x) ≡ record { route = Some SourceRoute; relays = x.relays }
   way-short n h = rw (ne_eqb (length x.relays) 0 n, lt-ltb (length x.relays) limit h)
 
-  pub way_long : (length x.relays ≡ 0 → ⊥) → limit ≤ length x.relays → way_by limit (some x) ≡ no_way
+  pub way_long : (length x.relays ≡ 0 → ⊥) → limit ≤ length x.relays → way_by limit (Some x) ≡ no_way
   way_long n h = rw (ne_eqb (length x.relays) 0 n, le-ltb (length x.relays) limit h)

@@ -1,11 +1,10 @@
 -- The addresses that a route record gives a record to, counted with nothing written: an address makes one more exactly where it has no
 -- record and stands nowhere before among the relays, so that the count after each is as many as there are addresses then.
+use Rattle.std.specs.Prelude.{Option, Some, None, option_map}
 use Prim.Native.Nat.{ℕ, ◌+◌, ◌<◌, ◌≤◌}
 use native.Mathlib.Omega.{arith}
 use mathlib.Core.Bool.{Bool, true, false, cond, not, ◌||◌, false≢true}
 use mathlib.Core.List.{List, [], ◌∷◌, ◌++◌, map, map-id}
-use mathlib.Core.Option
-use mathlib.Core.Option.{Option, none, some}
 use mathlib.Core.Path.{◌≡◌, refl, sym, ap, ◌∙◌, subst}
 use borrow.Author.Tests.{eqb-true, eqb-false}
 use lib.Dec.{eqb}
@@ -48,8 +47,8 @@ stored-count source relays xs =
 length-with : (a : Nwk) (ks : List ℕ) → Ascending (λ n. n) ks → length (with_address a ks) ≡ one_more (lookup (λ n. n) a.0 ks) + length ks
 length-with a ks asc = length-put (λ n. n) a.0 ks asc ∙ by (lookup (λ n. n) a.0 ks) refl where
   by : (o : Option ℕ) → lookup (λ n. n) a.0 ks ≡ o → count_with (λ n. n) a.0 ks ≡ one_more o + length ks
-  by none e = omega (arith, count-with-missing (λ n. n) a.0 ks e)
-  by (some k) e = omega (arith, count-with-found (λ n. n) a.0 k ks e)
+  by None e = omega (arith, count-with-missing (λ n. n) a.0 ks e)
+  by (Some k) e = omega (arith, count-with-found (λ n. n) a.0 k ks e)
 
 -- and all of them
 pub length-relays : (relays : List Nwk) (ks : List ℕ) → Ascending (λ n. n) ks → length (with_relays relays ks) ≡ new_addresses relays ks + length ks
@@ -71,8 +70,8 @@ relays-ascend (r ∷ rs) ks asc = relays-ascend rs (with_address r ks) (ascendin
 
 -- each makes at most one more
 one-few : (o : Option ℕ) → one_more o ≤ 1
-one-few none = omega arith
-one-few (some k) = omega arith
+one-few None = omega arith
+one-few (Some k) = omega arith
 
 new-few : (relays : List Nwk) (ks : List ℕ) → new_addresses relays ks ≤ length relays
 unfolding new_addresses
@@ -95,47 +94,47 @@ pub first : (a b : Bool) → (a || b) ≡ true → b ≡ false → a ≡ true
 first true b e n = refl
 first false b e n = absurd (false≢true (sym n ∙ e))
 
-with-among : (k : ℕ) (relays : List Nwk) (ks : List ℕ) → among k relays ≡ true → lookup (λ n. n) k (with_relays relays ks) ≡ some k
+with-among : (k : ℕ) (relays : List Nwk) (ks : List ℕ) → among k relays ≡ true → lookup (λ n. n) k (with_relays relays ks) ≡ Some k
 unfolding with_relays
 with-among k [] ks e = absurd (false≢true e)
 with-among k (r ∷ rs) ks e = go (among k rs) refl (λ h. with-among k rs (with_address r ks) h) where
-  go : (b : Bool) → among k rs ≡ b → (among k rs ≡ true → lookup (λ n. n) k (with_relays rs (with_address r ks)) ≡ some k)
-      → lookup (λ n. n) k (with_relays rs (with_address r ks)) ≡ some k
+  go : (b : Bool) → among k rs ≡ b → (among k rs ≡ true → lookup (λ n. n) k (with_relays rs (with_address r ks)) ≡ Some k)
+      → lookup (λ n. n) k (with_relays rs (with_address r ks)) ≡ Some k
   go true h ih = ih h
   go false h ih =
       let is : r.0 ≡ k = eqb-true r.0 k (first (eqb r.0 k) (among k rs) e h) in
       with-other k rs (with_address r ks) h
       ∙ ap (λ (n : ℕ). lookup (λ m. m) n (with_address r ks)) (sym is)
       ∙ lookup-put-same (λ m. m) r.0 ks
-      ∙ ap some is
+      ∙ ap Some is
 
 -- a key is there exactly if its row is
-lookup-keys : {E : Type 0} (key_of : E → ℕ) (k : ℕ) (xs : List E) → lookup (λ n. n) k (map key_of xs) ≡ Option.map key_of (lookup key_of k xs)
+lookup-keys : {E : Type 0} (key_of : E → ℕ) (k : ℕ) (xs : List E) → lookup (λ n. n) k (map key_of xs) ≡ option_map key_of (lookup key_of k xs)
 unfolding lookup
 lookup-keys key_of k [] = refl
 lookup-keys {E = E} key_of k (x ∷ xs) = go (eqb (key_of x) k) (lookup-keys key_of k xs) where
-  go : (b : Bool) → lookup (λ n. n) k (map key_of xs) ≡ Option.map key_of (lookup key_of k xs)
-      → cond b (some (key_of x)) (lookup (λ n. n) k (map key_of xs)) ≡ Option.map key_of (cond b (some x) (lookup key_of k xs))
+  go : (b : Bool) → lookup (λ n. n) k (map key_of xs) ≡ option_map key_of (lookup key_of k xs)
+      → cond b (Some (key_of x)) (lookup (λ n. n) k (map key_of xs)) ≡ option_map key_of (cond b (Some x) (lookup key_of k xs))
   go true ih = refl
   go false ih = ih
 
 -- which addresses are new
 module _ (t : RecordTable) (a : Nwk) (relays : List Nwk) where
-  pub known-told : {e : _} → lookup record_key a.0 (rows_of t) ≡ some e → Tells (lookup (λ n. n) a.0 (with_relays relays (addresses_of t)) ≡ none) false
+  pub known-told : {e : _} → lookup record_key a.0 (rows_of t) ≡ Some e → Tells (lookup (λ n. n) a.0 (with_relays relays (addresses_of t)) ≡ None) false
   known-told {e = e} q = not_so (λ m. go (among a.0 relays) refl m) where
-    there : lookup (λ n. n) a.0 (addresses_of t) ≡ some (record_key e)
-    there = lookup-keys record_key a.0 (rows_of t) ∙ ap (Option.map record_key) q
+    there : lookup (λ n. n) a.0 (addresses_of t) ≡ Some (record_key e)
+    there = lookup-keys record_key a.0 (rows_of t) ∙ ap (option_map record_key) q
 
-    go : (b : Bool) → among a.0 relays ≡ b → lookup (λ n. n) a.0 (with_relays relays (addresses_of t)) ≡ none → ⊥
+    go : (b : Bool) → among a.0 relays ≡ b → lookup (λ n. n) a.0 (with_relays relays (addresses_of t)) ≡ None → ⊥
     go true h m = none-some a.0 (sym m ∙ with-among a.0 relays (addresses_of t) h)
     go false h m = none-some (record_key e) (sym m ∙ with-other a.0 relays (addresses_of t) h ∙ there)
 
-  pub missing-told : lookup record_key a.0 (rows_of t) ≡ none → Tells (lookup (λ n. n) a.0 (with_relays relays (addresses_of t)) ≡ none) (not (among a.0 relays))
+  pub missing-told : lookup record_key a.0 (rows_of t) ≡ None → Tells (lookup (λ n. n) a.0 (with_relays relays (addresses_of t)) ≡ None) (not (among a.0 relays))
   missing-told q = go (among a.0 relays) refl where
-    gone : lookup (λ n. n) a.0 (addresses_of t) ≡ none
-    gone = lookup-keys record_key a.0 (rows_of t) ∙ ap (Option.map record_key) q
+    gone : lookup (λ n. n) a.0 (addresses_of t) ≡ None
+    gone = lookup-keys record_key a.0 (rows_of t) ∙ ap (option_map record_key) q
 
-    go : (b : Bool) → among a.0 relays ≡ b → Tells (lookup (λ n. n) a.0 (with_relays relays (addresses_of t)) ≡ none) (not b)
+    go : (b : Bool) → among a.0 relays ≡ b → Tells (lookup (λ n. n) a.0 (with_relays relays (addresses_of t)) ≡ None) (not b)
     go true h = not_so (λ m. none-some a.0 (sym m ∙ with-among a.0 relays (addresses_of t) h))
     go false h = yes-so (with-other a.0 relays (addresses_of t) h ∙ gone)
 
@@ -151,11 +150,11 @@ among-more k (x ∷ xs) b = ap (λ (e : Bool). eqb x.0 k || e) (among-more k xs 
   by false = refl
 
 -- the count goes on with one where an address is new
-one_told : (o : Option ℕ) (new : Bool) → Tells (o ≡ none) new → one_more o ≡ bool_byte new
-one_told none true t = refl
-one_told none false t = absurd (denied t refl refl)
-one_told (some k) true t = absurd (none-some k (sym (t.fact refl)))
-one_told (some k) false t = refl
+one_told : (o : Option ℕ) (new : Bool) → Tells (o ≡ None) new → one_more o ≡ bool_byte new
+one_told None true t = refl
+one_told None false t = absurd (denied t refl refl)
+one_told (Some k) true t = absurd (none-some k (sym (t.fact refl)))
+one_told (Some k) false t = refl
 
 module _ (t : RecordTable) (w : WellFormed t) where
   ascending : Ascending (λ n. n) (addresses_of t)
@@ -165,7 +164,7 @@ module _ (t : RecordTable) (w : WellFormed t) where
   unfolding with_relays
   counted_none = sym (length-map (rows_of t) record_key ∙ many t w)
 
-  pub counted-more : (before : List Nwk) (a : Nwk) (new : Bool) (total : ℕ) → Tells (lookup (λ n. n) a.0 (with_relays before (addresses_of t)) ≡ none) new
+  pub counted-more : (before : List Nwk) (a : Nwk) (new : Bool) (total : ℕ) → Tells (lookup (λ n. n) a.0 (with_relays before (addresses_of t)) ≡ None) new
       → total ≡ length (with_relays before (addresses_of t)) → total + bool_byte new ≡ length (with_address a (with_relays before (addresses_of t)))
   counted-more before a new total told e =
       omega (arith, length-with a (with_relays before (addresses_of t)) (relays-ascend before (addresses_of t) ascending), one_told (lookup (λ n. n) a.0 (with_relays before (addresses_of t))) new told)

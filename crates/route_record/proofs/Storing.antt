@@ -1,5 +1,6 @@
 -- Each relay's record written in turn: the rest of the records, put now, gives them all, and table and store stay together.
 -- Then the source's record makes the whole, and the comparison falls between the two.
+use Rattle.std.specs.Prelude.{Ok, Err}
 use Prim.Native.Nat.{ℕ, ◌+◌, ◌≤◌}
 use native.Mathlib.Omega.{arith}
 use mathlib.Core.Bool.{Bool, true, false, true≢false}
@@ -14,7 +15,6 @@ use Rattle.standard.specs.Ordered.{lookup, put, remove}
 use Rattle.standard.specs.Query.{is_there}
 use Rattle.standard.specs.Record.{record_key}
 use Rattle.standard.specs.Records.{RouteRecord, address_key, record_for, relays_stored, record_stored, other_relays, record_changed}
-use Rattle.flat_map.specs.declared.Place.TheVariants.{Found, Missing}
 use Rattle.flat_map.specs.Seek.{place_of}
 use Rattle.flat_map.specs.Shift.{shift_out}
 use Rattle.flat_map.proofs.Mapped.{put-grows}
@@ -23,7 +23,6 @@ use Rattle.record_table.specs.Table.{RecordTable, rows_of, Holds}
 use Rattle.relay_store.specs.Store.{on_rows, blank_row}
 use Rattle.relay_store.specs.Packed.{records_of, blank_route_record, Fits, Together}
 use Rattle.relay_store.proofs.Steps.{fits-put}
-use Rattle.route_record.specs.declared.RecordAnswer.TheVariants.{Refused, Stored}
 use Rattle.route_record.specs.Answer.{with_address, with_relays, stored_step, removed_step, HoldsRecords, StoredIn, RemovedIn}
 use Rattle.route_record.proofs.Held as held
 use Rattle.route_record.proofs.Held.{addresses}
@@ -84,7 +83,7 @@ module _ (t : RecordTable) (s : List ℕ) (g : Together t s) (source : Nwk) (rel
       ap (λ (n : ℕ). leb n 64)
       (ap (λ (ks : List ℕ). length (with_address source (with_relays relays ks))) (addresses t s g) ∙ sym (stored-count source relays (records_of t s)))
 
-  pub refused-in : leb (length (record_stored source relays (records_of t s))) 64 ≡ false → StoredIn t s (stored_step source relays (records_of t s)) (Refused RecordTableFull) t s
+  pub refused-in : leb (length (record_stored source relays (records_of t s))) 64 ≡ false → StoredIn t s (stored_step source relays (records_of t s)) (Err RecordTableFull) t s
   unfolding stored_step
   refused-in full = record {
     answers = rw full;
@@ -107,17 +106,17 @@ module _ (t : RecordTable) (s : List ℕ) (g : Together t s) (source : Nwk) (rel
       source-room = rw whole (leb-true (length (record_stored source relays (records_of t s))) 64 free)
 
       pub stored-in : (changed : Bool) (v : RecordTable) (after : List ℕ) → changed ≡ other_relays relays (lookup address_key source.0 (records_of u mid))
-          → HoldsRecords v after (put address_key (record_for source relays) (records_of u mid)) → StoredIn t s (stored_step source relays (records_of t s)) (Stored changed) v after
+          → HoldsRecords v after (put address_key (record_for source relays) (records_of u mid)) → StoredIn t s (stored_step source relays (records_of t s)) (Ok changed) v after
       unfolding stored_step record_changed
       stored-in changed v after e k = record {
-        answers = ap Stored (e ∙ ap (λ (xs : List RouteRecord). other_relays relays (lookup address_key source.0 xs)) h.records) ∙ rw free;
+        answers = ap Ok (e ∙ ap (λ (xs : List RouteRecord). other_relays relays (lookup address_key source.0 xs)) h.records) ∙ rw free;
         holds = record { together = k.together; records = k.records ∙ whole ∙ rw free };
         refused = λ n q. let z : ◌≡◌ {A = ℕ} 0 1 = cc in absurd (omega arith);
       }
 
 -- a record removed, or none to remove
 module _ (t : RecordTable) (s : List ℕ) (g : Together t s) (d : Nwk) (i : ℕ) where
-  pub kept_in : Missing i ≡ place_of (take t.count t.keys) d.0 → RemovedIn t s (removed_step d (records_of t s)) false t s
+  pub kept_in : Err i ≡ place_of (take t.count t.keys) d.0 → RemovedIn t s (removed_step d (records_of t s)) false t s
   unfolding removed_step
   kept_in p =
       let row = held.missing t s g d.0 i p in
@@ -127,7 +126,7 @@ module _ (t : RecordTable) (s : List ℕ) (g : Together t s) (d : Nwk) (i : ℕ)
         kept = λ e. (refl, refl);
       }
 
-  pub removed-in : Found i ≡ place_of (take t.count t.keys) d.0 → (u : RecordTable) (after : List ℕ) → Holds u (remove record_key d.0 (rows_of t)) → after ≡ on_rows (shift_out i blank_row) s
+  pub removed-in : Ok i ≡ place_of (take t.count t.keys) d.0 → (u : RecordTable) (after : List ℕ) → Holds u (remove record_key d.0 (rows_of t)) → after ≡ on_rows (shift_out i blank_row) s
       → RemovedIn t s (removed_step d (records_of t s)) true u after
   unfolding removed_step
   removed-in p u after h q = record {

@@ -1,8 +1,7 @@
 -- Route records in lent columns and a lent store: what storing, removing and asking answer, and the records after it.
 -- Document 01, "Refusal numbers": 3, "the call needs more new entries than are free in the .. record .. table".
 -- Assumes nothing.
-use Rattle.std.specs.Prelude.{ℕ, ◌+◌, Bool, true, false, cond, not, ◌||◌, List, [], ◌∷◌, map, ◌≡◌, eqb, leb, length, take, get_or}
-use Rattle.std.proofs.Math.Option.{Option, none, some}
+use Rattle.std.specs.Prelude.{ℕ, ◌+◌, Bool, true, false, cond, not, ◌||◌, List, [], ◌∷◌, map, ◌≡◌, eqb, leb, length, take, get_or, Option, Some, None, Result, Ok, Err}
 use Rattle.types.specs.declared.Nwk.{Nwk}
 use Rattle.types.specs.declared.Refusal.{Refusal}
 use Rattle.types.specs.declared.Refusal.TheVariants.{RecordTableFull}
@@ -11,13 +10,8 @@ use Rattle.standard.specs.Query.{entry_at, is_there}
 use Rattle.standard.specs.Records.{RouteRecord, Way, address_key, record_for, relays_stored, record_stored, record_changed, same_relays, way_by}
 use Rattle.standard.specs.Route.{nwk}
 use Rattle.record_table.specs.Table.{RecordTable}
-use Rattle.flat_map.specs.declared.Place.{Place}
-use Rattle.flat_map.specs.declared.Place.TheVariants as place
 use Rattle.relay_store.specs.Store.{row_at, relay_list}
-use Rattle.record_table.specs.declared.RecordLookup.TheVariants.{Found, Missing}
 use Rattle.relay_store.specs.Packed.{records_of, entry_of, Together}
-use Rattle.route_record.specs.declared.RecordAnswer.{RecordAnswer}
-use Rattle.route_record.specs.declared.RecordAnswer.TheVariants.{Refused, Stored}
 use Rattle.route_record.specs.declared.RecordWay.{RecordWay}
 use Rattle.route_record.specs.declared.RecordRow.{RecordRow}
 
@@ -43,8 +37,8 @@ with_relays (r ∷ rs) addresses = with_relays rs (with_address r addresses)
 
 -- how many of some addresses have no record yet, each counted once
 abbrev pub one_more : Option ℕ → ℕ
-one_more none = 1
-one_more (some k) = 0
+one_more None = 1
+one_more (Some k) = 0
 
 unfoldable pub new_addresses : List Nwk → List ℕ → ℕ
 new_addresses [] addresses = 0
@@ -57,15 +51,15 @@ among k (r ∷ rs) = eqb r.0 k || among k rs
 
 -- what storing a route record answers, and the records after it
 pub record RecordStep : Type 0 where
-  pub answer : RecordAnswer
+  pub answer : Result Bool Refusal
   pub records : List RouteRecord
 
 -- a route record of a source stored: refused, with the records as they were, where there would be more than 64
 unfoldable pub stored_step : Nwk → List Nwk → List RouteRecord → RecordStep
 stored_step source relays xs =
     cond (leb (length (record_stored source relays xs)) 64)
-    (record { answer = Stored (record_changed source relays xs); records = record_stored source relays xs })
-    (record { answer = Refused RecordTableFull; records = xs })
+    (record { answer = Ok (record_changed source relays xs); records = record_stored source relays xs })
+    (record { answer = Err RecordTableFull; records = xs })
 
 -- whether there was a record that is removed, and the records after it
 pub record RemovedStep : Type 0 where
@@ -84,10 +78,10 @@ pub record HoldsRecords (t : RecordTable) (store : List ℕ) (xs : List RouteRec
   pub records : records_of t store ≡ xs
 
 -- what storing leaves of a table and its store: the step's answer and records, and both as they came where it is refused
-pub record StoredIn (t : RecordTable) (store : List ℕ) (step : RecordStep) (answer : RecordAnswer) (u : RecordTable) (after : List ℕ) : Type 0 where
+pub record StoredIn (t : RecordTable) (store : List ℕ) (step : RecordStep) (answer : Result Bool Refusal) (u : RecordTable) (after : List ℕ) : Type 0 where
   pub answers : answer ≡ step.answer
   pub holds : HoldsRecords u after step.records
-  pub refused : (n : Refusal) → answer ≡ Refused n → (u ≡ t) × (after ≡ store)
+  pub refused : (n : Refusal) → answer ≡ Err n → (u ≡ t) × (after ≡ store)
 
 -- what removing leaves: both as they came where there is no record
 pub record RemovedIn (t : RecordTable) (store : List ℕ) (step : RemovedStep) (removed : Bool) (u : RecordTable) (after : List ℕ) : Type 0 where
@@ -96,9 +90,9 @@ pub record RemovedIn (t : RecordTable) (store : List ℕ) (step : RemovedStep) (
   pub kept : removed ≡ false → (u ≡ t) × (after ≡ store)
 
 -- whether the record at the place of an address names other relays, or there is none
-abbrev pub other_at_of : Place → List ℕ → List ℕ → List Nwk → Bool
-other_at_of (place.Found i) lengths store relays = not (same_relays (map nwk (take (get_or lengths i 0) (row_at i store))) relays)
-other_at_of (place.Missing i) lengths store relays = true
+abbrev pub other_at_of : Result ℕ ℕ → List ℕ → List ℕ → List Nwk → Bool
+other_at_of (Ok i) lengths store relays = not (same_relays (map nwk (take (get_or lengths i 0) (row_at i store))) relays)
+other_at_of (Err i) lengths store relays = true
 
 abbrev pub listed : Way → RecordWay
 listed w = record { route = w.route; relays = relay_list w.relays }
@@ -109,8 +103,8 @@ way_to destination limit t store = listed (way_by limit (record_of destination t
 
 -- the record at a place with its relays, and nothing from the count on
 abbrev pub row_for : Option RouteRecord → RecordRow
-row_for none = record { entry = Missing; relays = relay_list [] }
-row_for (some x) = record { entry = Found (entry_of x); relays = relay_list x.relays }
+row_for None = record { entry = None; relays = relay_list [] }
+row_for (Some x) = record { entry = Some (entry_of x); relays = relay_list x.relays }
 
 unfoldable pub record_held : ℕ → RecordTable → List ℕ → RecordRow
 record_held i t store = row_for (entry_at i (records_of t store))

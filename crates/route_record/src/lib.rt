@@ -2,7 +2,6 @@
 #![tactic(auto)]
 
 ghost use Rattle.std.specs.Prelude.{◌≡◌, map, ◌≤◌, ◌<◌, leb, length, take, drop};
-ghost use Rattle.std.proofs.Math.Option.{none};
 ghost use Rattle.flat_map.specs.Seek.{place_of};
 ghost use Rattle.standard.specs.Ordered.{lookup};
 ghost use Rattle.standard.specs.Record.{record_key};
@@ -15,22 +14,13 @@ ghost use Rattle.relay_store.specs.Store.{relays_of, PlaceWithin};
 ghost use Rattle.relay_store.specs.Packed.{records_of, Together};
 ghost use Rattle.route_record.specs.Answer.{record_put, relays_put, with_address, with_relays, among, stored_step, removed_step, HoldsRecords, StoredIn, RemovedIn, other_at_of, way_to, record_held, record_found};
 
-use flat_map::Place;
-use record_table::RecordLookup;
 use standard::{RecordEntry, RecordRoute, RelayList};
 use types::{Nwk, Refusal};
-
-// What storing a route record answers: a refusal, or whether the source's record changed.
-#[derive(Drop)]
-pub enum RecordAnswer {
-    Refused(Refusal),
-    Stored(bool),
-}
 
 // What storing answers, and how many records there are after it.
 #[derive(Drop)]
 pub struct Recorded {
-    pub answer: RecordAnswer,
+    pub answer: Result<bool, Refusal>,
     pub records: usize,
 }
 
@@ -44,14 +34,14 @@ pub struct RecordRemoved {
 // The way that a record names, and the relays of a source route.
 #[derive(Drop)]
 pub struct RecordWay {
-    pub route: RecordRoute,
+    pub route: Option<RecordRoute>,
     pub relays: RelayList,
 }
 
 // The record at a place, and its relays.
 #[derive(Drop)]
 pub struct RecordRow {
-    pub entry: RecordLookup,
+    pub entry: Option<RecordEntry>,
     pub relays: RelayList,
 }
 
@@ -64,11 +54,9 @@ fn same_row(row: &[u16], count: usize, l: RelayList) -> bool
         return false;
     }
     let mut same = true;
-    let mut i: usize = 0;
-    while i < count {
+    for i in 0..count {
         let a = l.addresses[i];
         same = same & (row[i] == a.0);
-        i += 1;
     }
     same
 }
@@ -79,11 +67,8 @@ fn is_among(l: RelayList, count: usize, a: Nwk) -> bool
     ensures { result ≡ among a.0 (take count (relays_of l)) }
 {
     let mut found = false;
-    let mut i: usize = 0;
-    while i < count {
-        let b = l.addresses[i];
-        found = found | (b.0 == a.0);
-        i += 1;
+    for b in &l.addresses[..count] {
+        found = found | (*b == a);
     }
     found
 }
@@ -98,12 +83,12 @@ fn is_new(
     a: Nwk,
 ) -> bool
     requires { WellFormed (in_columns keys.now lengths.now count) × (before ≤ relays.count) × (relays.count ≤ 32) }
-    ensures { Tells (lookup (λ n. n) a.0 (with_relays (take before (relays_of relays)) (map record_key (rows_of (in_columns keys.now lengths.now count)))) ≡ none) result }
+    ensures { Tells (lookup (λ n. n) a.0 (with_relays (take before (relays_of relays)) (map record_key (rows_of (in_columns keys.now lengths.now count)))) ≡ None) result }
 {
     let place = record_table::place_of(keys, lengths, count, a);
     match place {
-        Place::Found(i) => false,
-        Place::Missing(i) => !is_among(relays, before, a),
+        Ok(i) => false,
+        Err(i) => !is_among(relays, before, a),
     }
 }
 
@@ -117,12 +102,10 @@ fn has_room(keys: &[u16], lengths: &[u8], count: usize, source: Nwk, relays: Rel
         return true;
     }
     let mut total = count;
-    let mut i: usize = 0;
-    while i < n {
+    for i in 0..n {
         let a = relays.addresses[i];
         let new = is_new(keys, lengths, count, relays, i, a);
         total += new as usize;
-        i += 1;
     }
     let last = is_new(keys, lengths, count, relays, n, source);
     total += last as usize;
@@ -136,7 +119,7 @@ pub fn put_record(
     lengths: &mut [u8],
     count: usize,
     store: &mut [u16],
-    place: Place,
+    place: Result<usize, usize>,
     destination: Nwk,
     relays: RelayList,
     from: usize,
@@ -173,12 +156,10 @@ fn put_relays(
 {
     let n = relays.count;
     let mut total = count;
-    let mut i: usize = 0;
-    while i < n {
+    for i in 0..n {
         let a = relays.addresses[i];
         let place = record_table::place_of(keys, lengths, total, a);
         total = put_record(keys, lengths, total, store, place, a, relays, i + 1);
-        i += 1;
     }
     total
 }
@@ -190,14 +171,14 @@ pub fn record_at(keys: &[u16], lengths: &[u8], count: usize, store: &[u16], i: u
 {
     if count <= i {
         return RecordRow {
-            entry: RecordLookup::Missing,
+            entry: None,
             relays: relay_store::no_relays(),
         };
     }
     let e = record_table::entry_at(keys, lengths, i);
     let relays = relay_store::relays_at(store, i, e.relay_count as usize);
     RecordRow {
-        entry: RecordLookup::Found(e),
+        entry: Some(e),
         relays,
     }
 }
@@ -214,9 +195,9 @@ pub fn find_record(
     ensures { result ≡ record_found destination (in_columns keys.now lengths.now count) store.now }
 {
     let place = record_table::place_of(keys, lengths, count, destination);
-    let Place::Found(i) = place else {
+    let Ok(i) = place else {
         return RecordRow {
-            entry: RecordLookup::Missing,
+            entry: None,
             relays: relay_store::no_relays(),
         };
     };
@@ -224,16 +205,16 @@ pub fn find_record(
 }
 
 // Whether there is no record at the place of an address, or one that names other relays.
-fn differs(lengths: &[u8], store: &[u16], place: Place, relays: RelayList) -> bool
+fn differs(lengths: &[u8], store: &[u16], place: Result<usize, usize>, relays: RelayList) -> bool
     requires { (length lengths.now ≡ 64) × Under 33 lengths.now × (length store.now ≡ 2048) × PlaceWithin place × (relays.count ≤ 32) }
     ensures { result ≡ other_at_of place lengths.now store.now (relays_of relays) }
 {
     match place {
-        Place::Found(i) => {
+        Ok(i) => {
             let start = 32 * i;
             !same_row(&store[start..start + 32], lengths[i] as usize, relays)
         }
-        Place::Missing(i) => true,
+        Err(i) => true,
     }
 }
 
@@ -254,7 +235,7 @@ pub fn store_record(
 {
     if !has_room(keys, lengths, count, source, relays) {
         return Recorded {
-            answer: RecordAnswer::Refused(Refusal::RecordTableFull),
+            answer: Err(Refusal::RecordTableFull),
             records: count,
         };
     }
@@ -263,7 +244,7 @@ pub fn store_record(
     let changed = differs(lengths, store, place, relays);
     let records = put_record(keys, lengths, n, store, place, source, relays, 0);
     Recorded {
-        answer: RecordAnswer::Stored(changed),
+        answer: Ok(changed),
         records,
     }
 }
@@ -283,7 +264,7 @@ pub fn remove_record(
         (in_columns keys.new lengths.new result.records) store.new }
 {
     let place = record_table::place_of(keys, lengths, count, destination);
-    let Place::Found(i) = place else {
+    let Ok(i) = place else {
         return RecordRemoved {
             removed: false,
             records: count,
@@ -310,27 +291,27 @@ pub fn way_to(
     ensures { result ≡ way_to destination limit (in_columns keys.now lengths.now count) store.now }
 {
     let place = record_table::place_of(keys, lengths, count, destination);
-    let Place::Found(i) = place else {
+    let Ok(i) = place else {
         return RecordWay {
-            route: RecordRoute::None,
+            route: None,
             relays: relay_store::no_relays(),
         };
     };
     let n = lengths[i];
     if n == 0 {
         return RecordWay {
-            route: RecordRoute::Direct,
+            route: Some(RecordRoute::Direct),
             relays: relay_store::no_relays(),
         };
     }
     if n < limit {
         return RecordWay {
-            route: RecordRoute::SourceRoute,
+            route: Some(RecordRoute::SourceRoute),
             relays: relay_store::relays_at(store, i, n as usize),
         };
     }
     RecordWay {
-        route: RecordRoute::None,
+        route: None,
         relays: relay_store::no_relays(),
     }
 }

@@ -3,36 +3,26 @@
 
 ghost use Rattle.std.specs.Prelude.{◌≡◌};
 ghost use Rattle.standard.specs.declared.RouteReplyDisposition.TheVariants.{Drop};
-ghost use Rattle.standard.specs.declared.Update.TheVariants.{Same};
 ghost use Rattle.standard.specs.Reply.{written, reply_ours, reply_theirs, reply};
 ghost use Rattle.search_tables.specs.Packed.{in_columns, WellFormed, tables_of, Holds};
-ghost use Rattle.route_reply.specs.declared.ReplyAnswer.TheVariants.{Answered};
 ghost use Rattle.route_reply.specs.Answer.{answered, Leaves, Held};
 
-use flat_map::Place;
-use standard::{DiscoveryEntry, RouteEntry, RouteReplyDisposition, Update};
+use standard::{DiscoveryEntry, RouteEntry, RouteReplyDisposition, RouteUpdate};
 use types::{Nwk, Refusal};
-
-// What a reply is answered: a refusal, or what is to be done and what is reported.
-#[derive(Drop)]
-pub enum ReplyAnswer {
-    Refused(Refusal),
-    Answered(RouteReplyDisposition, Update),
-}
 
 // The answer, and how many routes there are after it.
 #[derive(Drop)]
 pub struct ReplyResult {
-    pub answer: ReplyAnswer,
+    pub answer: Result<(RouteReplyDisposition, Option<RouteUpdate>), Refusal>,
     pub routes: usize,
 }
 
 // The reply is dropped, and nothing changes.
 fn drop_reply(routes: usize) -> ReplyResult
-    ensures { result ≡ record { answer = Answered Drop Same; routes = routes } }
+    ensures { result ≡ record { answer = Ok (Drop, None); routes = routes } }
 {
     ReplyResult {
-        answer: ReplyAnswer::Answered(RouteReplyDisposition::Drop, Update::Same),
+        answer: Ok((RouteReplyDisposition::Drop, None)),
         routes,
     }
 }
@@ -113,10 +103,10 @@ fn reply_ours(
         cost,
     );
     ReplyResult {
-        answer: ReplyAnswer::Answered(
+        answer: Ok((
             RouteReplyDisposition::Established,
             route_entry::news(e, sender, cost),
-        ),
+        )),
         routes,
     }
 }
@@ -149,7 +139,7 @@ fn reply_theirs(
     let back = route_table::place_of(route_keys, route_words, route_usage, routes, originator);
     if !columns::has_room(back, routes, 64) {
         return ReplyResult {
-            answer: ReplyAnswer::Refused(Refusal::RouteTableFull),
+            answer: Err(Refusal::RouteTableFull),
             routes,
         };
     }
@@ -181,13 +171,13 @@ fn reply_theirs(
     let o2 = route_entry::considered(o, hop, d.forward_cost);
     let n = route_table::put_at(route_keys, route_words, route_usage, routes, back, o2);
     ReplyResult {
-        answer: ReplyAnswer::Answered(
+        answer: Ok((
             RouteReplyDisposition::Relay {
                 next_hop: hop,
                 path_cost: cost,
             },
             route_entry::considering(o, hop, d.forward_cost),
-        ),
+        )),
         routes: n,
     }
 }
@@ -213,7 +203,7 @@ pub fn reply(
     ensures { let t = tables_of (in_columns route_keys.old route_words.old route_usage.old routes discovery_keys.now discovery_words.old discovery_ends.old discoveries) in
         Leaves (in_columns route_keys.new route_words.new route_usage.new result.routes discovery_keys.now discovery_words.new discovery_ends.new discoveries) result.answer (answered t (reply own originator id responder sender cost t)) }
 {
-    let Place::Found(i) = discovery_table::place_of(
+    let Ok(i) = discovery_table::place_of(
         discovery_keys,
         discovery_words,
         discovery_ends,
@@ -223,18 +213,13 @@ pub fn reply(
     ) else {
         return drop_reply(routes);
     };
-    let Place::Found(j) = route_table::place_of(
-        route_keys,
-        route_words,
-        route_usage,
-        routes,
-        responder,
-    ) else {
+    let Ok(j) = route_table::place_of(route_keys, route_words, route_usage, routes, responder)
+    else {
         return drop_reply(routes);
     };
     let d = discovery_table::entry_at(discovery_keys, discovery_words, discovery_ends, i);
     let e = route_table::entry_at(route_keys, route_words, route_usage, j);
-    if originator.0 == own.0 {
+    if originator == own {
         return reply_ours(
             route_keys,
             route_words,

@@ -1,8 +1,8 @@
 -- A request's outcome by the room that its rows want once expiry is made, one under the originator in the routes and one under the pair in the discoveries;
 -- and what columns hold after each way of the code.
+use Rattle.std.specs.Prelude.{Option, Some, None, Result, Ok, Err}
 use Prim.Native.Nat.{ℕ}
 use mathlib.Core.Bool.{Bool, true, false, cond}
-use mathlib.Core.Option.{none, some}
 use mathlib.Core.Path.{◌≡◌, refl, sym, ap, ◌∙◌, subst}
 use borrow.Author.Tests.{le-leb, leb-true}
 use lib.Dec.{leb, ltb}
@@ -14,8 +14,6 @@ use Rattle.types.specs.Clock.{time_sum}
 use Rattle.standard.specs.declared.DiscoveryEntry.{DiscoveryEntry}
 use Rattle.standard.specs.declared.ManyToOne.{ManyToOne}
 use Rattle.standard.specs.declared.RouteEntry.{RouteEntry}
-use Rattle.standard.specs.declared.Update.{Update}
-use Rattle.standard.specs.declared.Update.TheVariants.{Same}
 use Rattle.standard.specs.Discovery.{pair_key, discovery_key, live}
 use Rattle.standard.specs.Expiry.{expired}
 use Rattle.standard.specs.Ordered.{lookup, put, count_with, keep}
@@ -27,37 +25,40 @@ use Rattle.discovery_table.specs.Table as discovery
 use Rattle.search_tables.specs.Packed.{SearchTables, in_columns, WellFormed, tables_of, Fits, Holds, InKey}
 use Rattle.search_tables.proofs.Packing.{search-fits, route-or-key, considered-key, flagged-key, routes-after, discoveries-after, both_hold, holds-itself}
 use Rattle.expiry.proofs.Fit.{expired-fits}
-use Rattle.route_request.specs.declared.RequestAnswer.{RequestAnswer}
-use Rattle.route_request.specs.declared.RequestAnswer.TheVariants.{Refused, Answered}
 use Rattle.route_request.specs.declared.RequestResult.{RequestResult}
 use Rattle.route_request.specs.Answer.{RequestStep, refused, answered, by_time, requested_on, requested, Leaves, Room}
+use Rattle.standard.specs.declared.RouteUpdate.{RouteUpdate}
+
+-- what is said of a request that is not refused
+abbrev answer_of : Bool → Option RouteUpdate → Result (Bool × Option RouteUpdate) Refusal
+answer_of accepted u = Ok (accepted, u)
 
 answered-by : (old : Tables) (x : Requested) (a b : Bool) → leb (length x.tables.routes) 64 ≡ a → leb (length x.tables.discoveries) 32 ≡ b
-    → answered old x ≡ cond a (cond b (record { answer = Answered x.accepted x.update; tables = x.tables }) (refused old DiscoveryTableFull)) (refused old RouteTableFull)
+    → answered old x ≡ cond a (cond b (record { answer = Ok (x.accepted, x.update); tables = x.tables }) (refused old DiscoveryTableFull)) (refused old RouteTableFull)
 unfolding answered
 answered-by old x a b p q = rw (p, q)
 
 -- a step that is another one
-pub leaves-as : (s : SearchTables) (answer : RequestAnswer) (x y : RequestStep) → x ≡ y → Leaves s answer x → Leaves s answer y
+pub leaves-as : (s : SearchTables) (answer : Result (Bool × Option RouteUpdate) Refusal) (x y : RequestStep) → x ≡ y → Leaves s answer x → Leaves s answer y
 leaves-as s answer x y q l = subst (λ (z : RequestStep). Leaves s answer z) q l
 
 -- a refusal writes nothing
-pub leaves-refused : (s : SearchTables) → WellFormed s → (why : Refusal) (r : RequestResult) → r ≡ record { answer = Refused why; routes = s.routes.count; discoveries = s.discoveries.count }
+pub leaves-refused : (s : SearchTables) → WellFormed s → (why : Refusal) (r : RequestResult) → r ≡ record { answer = Err why; routes = s.routes.count; discoveries = s.discoveries.count }
     → (x : RequestStep) → x ≡ refused (tables_of s) why
     → Leaves (in_columns s.routes.keys s.routes.words s.routes.usage r.routes s.discoveries.keys s.discoveries.words s.discoveries.ends r.discoveries) r.answer x
 leaves-refused s w why r e x q =
     subst
     (λ (z : RequestResult). Leaves (in_columns s.routes.keys s.routes.words s.routes.usage z.routes s.discoveries.keys s.discoveries.words s.discoveries.ends z.discoveries) z.answer x)
-    (sym e) (leaves-as s (Refused why) (refused (tables_of s) why) x (sym q) (record { said = refl; left = holds-itself s w }))
+    (sym e) (leaves-as s (Err why) (refused (tables_of s) why) x (sym q) (record { said = refl; left = holds-itself s w }))
 
 -- nothing but the expiry happens: what it leaves fits
-pub leaves-unaccepted : (s : SearchTables) (old t : Tables) → Holds s t → Leaves s (Answered false Same) (answered old (record { accepted = false; update = Same; tables = t }))
+pub leaves-unaccepted : (s : SearchTables) (old t : Tables) → Holds s t → Leaves s (Ok (false, None)) (answered old (record { accepted = false; update = None; tables = t }))
 leaves-unaccepted s old t h =
-    leaves-as s (Answered false Same) (record { answer = Answered false Same; tables = t }) (answered old x)
+    leaves-as s (Ok (false, None)) (record { answer = Ok (false, None); tables = t }) (answered old x)
     (sym (answered-by old x true true (le-leb (length t.routes) 64 f.routes.fit.small) (le-leb (length t.discoveries) 32 f.discoveries.fit.small)))
     (record { said = refl; left = h }) where
       x : Requested
-      x = record { accepted = false; update = Same; tables = t }
+      x = record { accepted = false; update = None; tables = t }
 
       f : Fits t
       f = subst Fits h.rows (search-fits s h.formed)
@@ -81,18 +82,18 @@ module _ (originator sender : Nwk) (cost : ℕ) (many_to_one : ManyToOne) where
 
       with-room : Room originator id t
           → answered old (accepting originator sender cost many_to_one d t)
-          ≡ record { answer = Answered true (considering sender cost (route_or originator t.routes)); tables = (accepting originator sender cost many_to_one d t).tables }
+          ≡ record { answer = Ok (true, considering sender cost (route_or originator t.routes)); tables = (accepting originator sender cost many_to_one d t).tables }
       with-room r =
           answered-by old (accepting originator sender cost many_to_one d t) true true
           (routes-room ∙ le-leb _ 64 r.route) (discoveries-room ∙ le-leb _ 32 r.discovery)
 
       -- each table after its put
-      pub leaves-accepted : Room originator id t → (s : SearchTables) (e : RouteEntry) (u : Update) → e ≡ heard t → u ≡ considering sender cost (route_or originator t.routes)
+      pub leaves-accepted : Room originator id t → (s : SearchTables) (e : RouteEntry) (u : Option RouteUpdate) → e ≡ heard t → u ≡ considering sender cost (route_or originator t.routes)
           → route.Holds s.routes (put route_key e t.routes) → discovery.Holds s.discoveries (put discovery_key d t.discoveries)
-          → Leaves s (Answered true u) (answered old (accepting originator sender cost many_to_one d t))
+          → Leaves s (Ok (true, u)) (answered old (accepting originator sender cost many_to_one d t))
       leaves-accepted r s e u p q held kept =
-          leaves-as s (Answered true u) _ _ (sym (with-room r)) (record {
-            said = ap (Answered true) q;
+          leaves-as s (Ok (true, u)) _ _ (sym (with-room r)) (record {
+            said = ap (answer_of true) q;
             left = both_hold s (accepting originator sender cost many_to_one d t).tables (subst (λ (x : RouteEntry). route.Holds s.routes (put route_key x t.routes)) p held) kept;
           })
 
@@ -121,7 +122,7 @@ module _ (originator sender : Nwk) (cost : ℕ) (many_to_one : ManyToOne) where
         has_room e = record { route = leb-true _ 64 free; discovery = leb-true _ 32 e }
 
       -- stored in the tables that the expiry leaves: with room, what a refusal would hand back plays no part
-      pub leaves-stored : (left : SearchTables) → Holds left (expired now (tables_of s)) → Room originator id (expired now (tables_of s)) → (u : SearchTables) (answer : RequestAnswer)
+      pub leaves-stored : (left : SearchTables) → Holds left (expired now (tables_of s)) → Room originator id (expired now (tables_of s)) → (u : SearchTables) (answer : Result (Bool × Option RouteUpdate) Refusal)
           → Leaves u answer (answered (tables_of left) (accepting originator sender cost many_to_one d (tables_of left)))
           → Leaves u answer (answered (tables_of s) (accepting originator sender cost many_to_one d (expired now (tables_of s))))
       leaves-stored left h r u answer l =
@@ -133,29 +134,29 @@ module _ (originator sender : Nwk) (cost : ℕ) (many_to_one : ManyToOne) where
 -- the rule, by what stands under the pair
 module _ (originator : Nwk) (id : ℕ) (destination sender : Nwk) (cost : ℕ) (many_to_one : ManyToOne) where
   module _ (expires : ℕ) (t : Tables) where
-    pub rule-new : request_to originator id destination sender cost many_to_one expires t none ≡ accepting originator sender cost many_to_one (new_discovery originator id sender cost expires destination) t
+    pub rule-new : request_to originator id destination sender cost many_to_one expires t None ≡ accepting originator sender cost many_to_one (new_discovery originator id sender cost expires destination) t
     unfolding request_to
     rule-new = refl
 
     pub rule-dearer : (d : DiscoveryEntry) → ltb d.forward_cost cost ≡ true
-        → request_to originator id destination sender cost many_to_one expires t (some d) ≡ record { accepted = false; update = Same; tables = t }
+        → request_to originator id destination sender cost many_to_one expires t (Some d) ≡ record { accepted = false; update = None; tables = t }
     unfolding request_to
     rule-dearer d e = rw e
 
     pub rule-better : (d : DiscoveryEntry) → ltb d.forward_cost cost ≡ false
-        → request_to originator id destination sender cost many_to_one expires t (some d) ≡ accepting originator sender cost many_to_one (reached sender cost d) t
+        → request_to originator id destination sender cost many_to_one expires t (Some d) ≡ accepting originator sender cost many_to_one (reached sender cost d) t
     unfolding request_to
     rule-better d e = rw e
 
   -- the whole, by what the expiry leaves under the pair
   module _ (now span : ℕ) (old : Tables) where
-    pub requested-known : (d : DiscoveryEntry) → lookup discovery_key (pair_key originator id) (keep (live now) old.discoveries) ≡ some d
-        → requested old originator id destination sender cost many_to_one now span ≡ answered old (request_to originator id destination sender cost many_to_one 0 (expired now old) (some d))
+    pub requested-known : (d : DiscoveryEntry) → lookup discovery_key (pair_key originator id) (keep (live now) old.discoveries) ≡ Some d
+        → requested old originator id destination sender cost many_to_one now span ≡ answered old (request_to originator id destination sender cost many_to_one 0 (expired now old) (Some d))
     unfolding requested requested_on request expired
     requested-known d e = rw e
 
-    pub requested-new : lookup discovery_key (pair_key originator id) (keep (live now) old.discoveries) ≡ none
+    pub requested-new : lookup discovery_key (pair_key originator id) (keep (live now) old.discoveries) ≡ None
         → requested old originator id destination sender cost many_to_one now span
-        ≡ by_time old (time_sum now span) (λ (expires : ℕ). request_to originator id destination sender cost many_to_one expires (expired now old) none)
+        ≡ by_time old (time_sum now span) (λ (expires : ℕ). request_to originator id destination sender cost many_to_one expires (expired now old) None)
     unfolding requested requested_on request expired
     requested-new e = rw e

@@ -1,40 +1,30 @@
 // A route request against the tables of route search in columns that are lent: it is refused before anything is written, or else changes them in place.
 #![tactic(auto)]
 
-ghost use Rattle.std.proofs.Math.Option.{none, some};
 ghost use Rattle.std.specs.Prelude.{◌≡◌};
 ghost use Rattle.types.specs.Clock.{time_sum};
 ghost use Rattle.standard.specs.Expiry.{expired};
 ghost use Rattle.standard.specs.Request.{accepting, request_to};
 ghost use Rattle.search_tables.specs.Packed.{in_columns, WellFormed, tables_of, InKey};
-ghost use Rattle.route_request.specs.declared.RequestAnswer.TheVariants.{Refused};
 ghost use Rattle.route_request.specs.Answer.{answered, by_time, requested, Leaves, Room};
 
-use discovery_table::DiscoveryLookup;
-use standard::{DiscoveryEntry, ManyToOne, Update};
-use types::{Nwk, Refusal, Sum};
-
-// What a request is answered: a refusal, or whether it is accepted and what is reported.
-#[derive(Drop)]
-pub enum RequestAnswer {
-    Refused(Refusal),
-    Answered(bool, Update),
-}
+use standard::{DiscoveryEntry, ManyToOne, RouteUpdate};
+use types::{Nwk, Refusal};
 
 // The answer, and how many routes and discoveries there are after it.
 #[derive(Drop)]
 pub struct RequestResult {
-    pub answer: RequestAnswer,
+    pub answer: Result<(bool, Option<RouteUpdate>), Refusal>,
     pub routes: usize,
     pub discoveries: usize,
 }
 
 // Nothing is written, and why.
 fn refuse(routes: usize, discoveries: usize, why: Refusal) -> RequestResult
-    ensures { result ≡ record { answer = Refused why; routes = routes; discoveries = discoveries } }
+    ensures { result ≡ record { answer = Err why; routes = routes; discoveries = discoveries } }
 {
     RequestResult {
-        answer: RequestAnswer::Refused(why),
+        answer: Err(why),
         routes,
         discoveries,
     }
@@ -89,7 +79,7 @@ fn store(
         d,
     );
     RequestResult {
-        answer: RequestAnswer::Answered(true, route_entry::considering(e, sender, cost)),
+        answer: Ok((true, route_entry::considering(e, sender, cost))),
         routes: n,
         discoveries: m,
     }
@@ -192,7 +182,7 @@ fn request_known(
 ) -> RequestResult
     requires { WellFormed (in_columns route_keys.old route_words.old route_usage.old routes discovery_keys.old discovery_words.old discovery_ends.old discoveries) × InKey d originator id }
     ensures { let t = tables_of (in_columns route_keys.old route_words.old route_usage.old routes discovery_keys.old discovery_words.old discovery_ends.old discoveries) in
-        Leaves (in_columns route_keys.new route_words.new route_usage.new result.routes discovery_keys.new discovery_words.new discovery_ends.new result.discoveries) result.answer (answered t (request_to originator id destination sender cost many_to_one 0 (expired now_ms t) (some d))) }
+        Leaves (in_columns route_keys.new route_words.new route_usage.new result.routes discovery_keys.new discovery_words.new discovery_ends.new result.discoveries) result.answer (answered t (request_to originator id destination sender cost many_to_one 0 (expired now_ms t) (Some d))) }
 {
     if d.forward_cost < cost {
         let left = expiry::expire(
@@ -207,7 +197,7 @@ fn request_known(
             now_ms,
         );
         return RequestResult {
-            answer: RequestAnswer::Answered(false, Update::Same),
+            answer: Ok((false, None)),
             routes: left.routes,
             discoveries: left.discoveries,
         };
@@ -253,11 +243,11 @@ fn request_new(
 ) -> RequestResult
     requires { WellFormed (in_columns route_keys.old route_words.old route_usage.old routes discovery_keys.old discovery_words.old discovery_ends.old discoveries) }
     ensures { let t = tables_of (in_columns route_keys.old route_words.old route_usage.old routes discovery_keys.old discovery_words.old discovery_ends.old discoveries) in
-        Leaves (in_columns route_keys.new route_words.new route_usage.new result.routes discovery_keys.new discovery_words.new discovery_ends.new result.discoveries) result.answer (by_time t (time_sum now_ms span) (λ expires. request_to originator id destination sender cost many_to_one expires (expired now_ms t) none)) }
+        Leaves (in_columns route_keys.new route_words.new route_usage.new result.routes discovery_keys.new discovery_words.new discovery_ends.new result.discoveries) result.answer (by_time t (time_sum now_ms span) (λ expires. request_to originator id destination sender cost many_to_one expires (expired now_ms t) None)) }
 {
     let sum = types::time_sum(now_ms, span);
     match sum {
-        Sum::At(expires) => {
+        Some(expires) => {
             let d = discovery_entry::new_discovery(
                 originator,
                 id,
@@ -284,7 +274,7 @@ fn request_new(
                 now_ms,
             )
         }
-        Sum::Past => refuse(routes, discoveries, Refusal::TimePastEnd),
+        None => refuse(routes, discoveries, Refusal::TimePastEnd),
     }
 }
 
@@ -321,7 +311,7 @@ pub fn request(
         now_ms,
     );
     match found {
-        DiscoveryLookup::Found(d) => {
+        Some(d) => {
             request_known(
                 route_keys,
                 route_words,
@@ -341,7 +331,7 @@ pub fn request(
                 now_ms,
             )
         }
-        DiscoveryLookup::Missing => {
+        None => {
             request_new(
                 route_keys,
                 route_words,

@@ -1,10 +1,10 @@
 -- The route table under the laws of columns: well-formed columns are sound, and so are their rows laid into columns;
 -- the test tells well-formedness, a place of a key is a look-up, and a step on the columns is a step on the rows.
+use Rattle.std.specs.Prelude.{Option, Some, None, Ok, Err}
 use Prim.Native.Nat.{ℕ, ◌+◌, ◌-◌, ◌<◌, ◌≤◌}
 use native.Mathlib.Omega.{arith}
 use mathlib.Core.Bool.{Bool, true, false, cond, ◌&&◌}
 use mathlib.Core.List.{List, [], ◌∷◌, map}
-use mathlib.Core.Option.{Option, none, some}
 use mathlib.Core.Path.{◌≡◌, refl, sym, ap, ◌∙◌, subst}
 use lib.Dec.{eqb}
 use lib.ListN.{length, take, get_or, set}
@@ -17,7 +17,6 @@ use Rattle.standard.specs.declared.RouteEntry.{RouteEntry}
 use Rattle.standard.specs.declared.Status.TheVariants.{Inactive}
 use Rattle.standard.specs.Route.{is_active, route_key, with_status, decayed, unlinked}
 use Rattle.standard.proofs.Tells.{tells_both, tells-so}
-use Rattle.flat_map.specs.declared.Place.TheVariants as Place
 use Rattle.flat_map.specs.Seek.{place_of}
 use Rattle.flat_map.specs.Shift.{shift_in, shift_out}
 use Rattle.flat_map.specs.Table.{Each, Formed, Rising, ZeroFrom}
@@ -34,8 +33,7 @@ use Rattle.columns.proofs.Sweep as sweep
 use Rattle.columns.proofs.Told.{ordered-told, under-told}
 use Rattle.columns.proofs.View as view
 use Rattle.route_table.specs.Codec.{route_word, word_end, route_numbers, route_in, route_of, Clean, InRange}
-use Rattle.route_table.specs.Table.{RouteTable, in_columns, blank_route, WellFormed, well_formed, rows_of, table_of, Fits, Holds, looked}
-use Rattle.route_table.specs.declared.RouteLookup.TheVariants.{Found, Missing}
+use Rattle.route_table.specs.Table.{RouteTable, in_columns, blank_route, WellFormed, well_formed, rows_of, table_of, Fits, Holds}
 use Rattle.route_table.proofs.Codec.{codec, usage-read, read-in-range}
 
 -- the columns after the keys
@@ -111,51 +109,51 @@ module _ (t : RouteTable) (w : WellFormed t) where
 
   -- what the place of a destination says of the rows
   module _ (k i : ℕ) where
-    pub found-row : Place.Found i ≡ place_of (take t.count t.keys) k → lookup route_key k (rows_of t) ≡ some (route_in (get_or t.keys i 0) (get_or t.words i 0) (get_or t.usage i 0))
+    pub found-row : Ok i ≡ place_of (take t.count t.keys) k → lookup route_key k (rows_of t) ≡ Some (route_in (get_or t.keys i 0) (get_or t.words i 0) (get_or t.usage i 0))
     found-row p = rows.found 64 3 route_key blank_route route_of route_numbers Clean InRange codec t.keys (others t) t.count (table-sound t w) k i p
 
-    pub place-within : Place.Found i ≡ place_of (take t.count t.keys) k → i < t.count
+    pub place-within : Ok i ≡ place_of (take t.count t.keys) k → i < t.count
     place-within p = rows.found_below 64 3 route_key blank_route route_of route_numbers Clean InRange codec t.keys (others t) t.count (table-sound t w) k i p
 
-    pub missing-row : Place.Missing i ≡ place_of (take t.count t.keys) k → lookup route_key k (rows_of t) ≡ none
+    pub missing-row : Err i ≡ place_of (take t.count t.keys) k → lookup route_key k (rows_of t) ≡ None
     missing-row p = rows.missing 64 3 route_key blank_route route_of route_numbers Clean InRange codec t.keys (others t) t.count (table-sound t w) k i p
 
-    pub missing-place : Place.Missing i ≡ place_of (take t.count t.keys) k → i ≤ t.count
+    pub missing-place : Err i ≡ place_of (take t.count t.keys) k → i ≤ t.count
     missing-place p = missing-within 64 route_key blank_route t.keys (entries route_of 64 (t.keys ∷ others t)) t.count flat-table k i p
 
     -- a destination that is missing and has room has a free place
-    pub free-place : Place.Missing i ≡ place_of (take t.count t.keys) k → count_with route_key k (rows_of t) ≤ 64 → t.count < 64
+    pub free-place : Err i ≡ place_of (take t.count t.keys) k → count_with route_key k (rows_of t) ≤ 64 → t.count < 64
     free-place p room = omega (arith, room, many, count-with-missing route_key k (rows_of t) (missing-row p))
 
   -- what stands in a place of the order
-  pub row-in-use : (i : ℕ) → i < t.count → entry_at i (rows_of t) ≡ some (route_in (get_or t.keys i 0) (get_or t.words i 0) (get_or t.usage i 0))
-  row-in-use i h = entry-in-use 64 route_key blank_route t.keys (entries route_of 64 (t.keys ∷ others t)) t.count flat-table i h ∙ ap some (row_reads i)
+  pub row-in-use : (i : ℕ) → i < t.count → entry_at i (rows_of t) ≡ Some (route_in (get_or t.keys i 0) (get_or t.words i 0) (get_or t.usage i 0))
+  row-in-use i h = entry-in-use 64 route_key blank_route t.keys (entries route_of 64 (t.keys ∷ others t)) t.count flat-table i h ∙ ap Some (row_reads i)
 
-  pub row-not-in-use : (i : ℕ) → t.count ≤ i → entry_at i (rows_of t) ≡ none
+  pub row-not-in-use : (i : ℕ) → t.count ≤ i → entry_at i (rows_of t) ≡ None
   row-not-in-use i h = entry-not-in-use 64 route_key blank_route t.keys (entries route_of 64 (t.keys ∷ others t)) t.count flat-table i h
 
   -- a route stored over the one of its destination, and one put in
   module _ (e : RouteEntry) (r : InRange e) (i : ℕ) where
-    pub over-holds : Place.Found i ≡ place_of (take t.count t.keys) (route_key e)
+    pub over-holds : Ok i ≡ place_of (take t.count t.keys) (route_key e)
         → Holds (in_columns t.keys (set t.words i (route_word e)) (set t.usage i e.total_usage_count) t.count) (put route_key e (rows_of t))
     over-holds p =
         let q = rows.over-put 64 3 route_key blank_route route_of route_numbers Clean InRange codec t.keys (others t) t.count (table-sound t w) e r i p in
         record { formed = sound-formed _ q.0; rows = q.1 }
 
-    pub in-holds : Place.Missing i ≡ place_of (take t.count t.keys) (route_key e) → t.count < 64
+    pub in-holds : Err i ≡ place_of (take t.count t.keys) (route_key e) → t.count < 64
         → Holds (in_columns (shift_in i (route_key e) t.keys) (shift_in i (route_word e) t.words) (shift_in i e.total_usage_count t.usage) (t.count + 1)) (put route_key e (rows_of t))
     in-holds p room =
         let q = rows.in-put 64 3 route_key blank_route route_of route_numbers Clean InRange codec t.keys (others t) t.count (table-sound t w) e r i p room in
         record { formed = sound-formed _ q.0; rows = q.1 }
 
   -- a route taken out, and one that is not there
-  pub out-holds : (k i : ℕ) → Place.Found i ≡ place_of (take t.count t.keys) k
+  pub out-holds : (k i : ℕ) → Ok i ≡ place_of (take t.count t.keys) k
       → Holds (in_columns (shift_out i 0 t.keys) (shift_out i 0 t.words) (shift_out i 0 t.usage) (t.count - 1)) (remove route_key k (rows_of t))
   out-holds k i p =
       let q = rows.out-key 64 3 route_key blank_route route_of route_numbers Clean InRange codec t.keys (others t) t.count (table-sound t w) i k p in
       record { formed = sound-formed _ q.0; rows = q.1 }
 
-  pub none_out : (k i : ℕ) → Place.Missing i ≡ place_of (take t.count t.keys) k → Holds t (remove route_key k (rows_of t))
+  pub none_out : (k i : ℕ) → Err i ≡ place_of (take t.count t.keys) k → Holds t (remove route_key k (rows_of t))
   none_out k i p = record { formed = w; rows = sym (remove_absent route_key blank_route k (rows_of t) (missing-row k i p)) }
 
 -- a table that holds routes is the table of these
@@ -195,13 +193,13 @@ module _ (xs : List RouteEntry) (f : Fits xs) where
     each_map (y ∷ ys) e = (within y e.0, each_map ys e.1)
 
 -- a look-up's answer, read back
-pub looked-found : (o : Option RouteEntry) (e : RouteEntry) → Found e ≡ looked o → o ≡ some e
-looked-found none e q = absurd (let z : ◌≡◌ {A = ℕ} 0 1 = cc in omega arith)
-looked-found (some x) e q = cc
+pub looked-found : (o : Option RouteEntry) (e : RouteEntry) → Some e ≡ o → o ≡ Some e
+looked-found None e q = absurd (let z : ◌≡◌ {A = ℕ} 0 1 = cc in omega arith)
+looked-found (Some x) e q = cc
 
-pub looked-missing : (o : Option RouteEntry) → Missing ≡ looked o → o ≡ none
-looked-missing none q = refl
-looked-missing (some x) q = absurd (let z : ◌≡◌ {A = ℕ} 0 1 = cc in omega arith)
+pub looked-missing : (o : Option RouteEntry) → None ≡ o → o ≡ None
+looked-missing None q = refl
+looked-missing (Some x) q = absurd (let z : ◌≡◌ {A = ℕ} 0 1 = cc in omega arith)
 
 -- what decay and a lost hop change is not the key
 key-kept : (b : Bool) (x y : RouteEntry) → route_key x ≡ route_key y → route_key (cond b x y) ≡ route_key y

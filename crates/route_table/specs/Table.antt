@@ -2,7 +2,6 @@
 -- Document 01, "Capacities and clock": "Routes 64"; "Well formed".
 -- Assumes nothing.
 use Rattle.std.specs.Prelude.{ℕ, Bool, false, ◌&&◌, List, [], ◌∷◌, map, ◌≡◌, length}
-use Rattle.std.proofs.Math.Option.{Option, none, some}
 use Rattle.standard.specs.declared.RouteEntry.{RouteEntry}
 use Rattle.standard.specs.declared.Status.TheVariants.{Active}
 use Rattle.standard.specs.Route.{nwk, route_key}
@@ -11,8 +10,6 @@ use Rattle.flat_map.specs.Table.{Each, Fit}
 use Rattle.columns.specs.Columns.{Ordered, ordered, Under, are_under}
 use Rattle.columns.specs.Table.{rows_in}
 use Rattle.route_table.specs.Codec.{route_of, route_word, word_end, InRange}
-use Rattle.route_table.specs.declared.RouteLookup.{RouteLookup}
-use Rattle.route_table.specs.declared.RouteLookup.TheVariants.{Found, Missing}
 
 pub record RouteTable : Type 0 where
   pub keys : List ℕ
@@ -69,8 +66,3 @@ pub record Fits (xs : List RouteEntry) : Type 0 where
 pub record Holds (t : RouteTable) (xs : List RouteEntry) : Type 0 where
   pub formed : WellFormed t
   pub rows : rows_of t ≡ xs
-
--- a look-up's answer
-abbrev pub looked : Option RouteEntry → RouteLookup
-looked none = Missing
-looked (some e) = Found e

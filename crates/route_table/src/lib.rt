@@ -3,7 +3,6 @@
 
 ghost use Rattle.std.specs.Prelude.{[], ◌∷◌, map, ◌≡◌, ◌+◌, ◌-◌, ◌*◌, ◌≤◌, ◌<◌, length, take, get_or};
 ghost use mir.Val.{bool_byte};
-ghost use Rattle.flat_map.specs.declared.Place.TheVariants.{Found, Missing};
 ghost use Rattle.flat_map.specs.Seek.{place_of};
 ghost use Rattle.flat_map.specs.Shift.{shift_out};
 ghost use Rattle.standard.specs.Numbers.{status_number};
@@ -11,18 +10,10 @@ ghost use Rattle.standard.specs.Ordered.{lookup, put, remove, count_with};
 ghost use Rattle.standard.specs.Query.{entry_at};
 ghost use Rattle.standard.specs.Route.{route_key, decayed, unlinked};
 ghost use Rattle.route_table.specs.Codec.{status_of, route_word, route_in};
-ghost use Rattle.route_table.specs.Table.{in_columns, WellFormed, well_formed, rows_of, Holds, looked};
+ghost use Rattle.route_table.specs.Table.{in_columns, WellFormed, well_formed, rows_of, Holds};
 
-use flat_map::Place;
 use standard::{RouteEntry, Status};
 use types::Nwk;
-
-// What stands under a destination, or in a place.
-#[derive(Drop)]
-pub enum RouteLookup {
-    Found(RouteEntry),
-    Missing,
-}
 
 // Which status a number of two bits names.
 fn status_of(n: u64) -> Status
@@ -43,12 +34,7 @@ fn status_of(n: u64) -> Status
 fn status_number(s: Status) -> u64
     ensures { (result ≡ status_number s) × (result < 4) }
 {
-    match s {
-        Status::Active => 0,
-        Status::DiscoveryUnderway => 1,
-        Status::DiscoveryFailed => 2,
-        Status::Inactive => 3,
-    }
+    s as u64
 }
 
 // The route in a key, a word and a usage count.
@@ -74,7 +60,7 @@ fn entry(key: u16, word: u64, usage: u32) -> RouteEntry
 fn bit(b: bool) -> u64
     ensures { (result ≡ bool_byte b) × (result < 2) }
 {
-    if b { 1 } else { 0 }
+    u64::from(b)
 }
 
 // The fields of a word, put together.
@@ -130,20 +116,26 @@ pub fn well_formed(keys: &[u16], words: &[u64], usage: &[u32], count: usize) -> 
     if 64 < count {
         return false;
     }
-    let up = columns::rising16(keys, count);
-    let no_keys = columns::zero_from16(keys, count);
-    let no_words = columns::zero_from64(words, count);
-    let no_usage = columns::zero_from32(usage, count);
-    let small = columns::under64(words, 274877906944);
+    let up = columns::rising(keys, count);
+    let no_keys = columns::zero_from(keys, count);
+    let no_words = columns::zero_from(words, count);
+    let no_usage = columns::zero_from(usage, count);
+    let small = columns::under(words, 274877906944);
     up & no_keys & no_words & no_usage & small
 }
 
 // Where the route to a destination stands, or would stand.
-pub fn place_of(keys: &[u16], words: &[u64], usage: &[u32], count: usize, destination: Nwk) -> Place
+pub fn place_of(
+    keys: &[u16],
+    words: &[u64],
+    usage: &[u32],
+    count: usize,
+    destination: Nwk,
+) -> Result<usize, usize>
     requires { WellFormed (in_columns keys.now words.now usage.now count) }
     ensures { result ≡ place_of (take count keys.now) destination.0 }
 {
-    columns::index16(keys, count, destination.0)
+    columns::index_of(keys, count, destination.0)
 }
 
 // The route in a place.
@@ -161,30 +153,30 @@ pub fn find(
     usage: &[u32],
     count: usize,
     destination: Nwk,
-) -> RouteLookup
+) -> Option<RouteEntry>
     requires { WellFormed (in_columns keys.now words.now usage.now count) }
-    ensures { result ≡ looked (lookup route_key destination.0 (rows_of (in_columns keys.now words.now usage.now count))) }
+    ensures { result ≡ lookup route_key destination.0 (rows_of (in_columns keys.now words.now usage.now count)) }
 {
     let place = place_of(keys, words, usage, count, destination);
     match place {
-        Place::Found(i) => {
+        Ok(i) => {
             let e = entry_at(keys, words, usage, i);
-            RouteLookup::Found(e)
+            Some(e)
         }
-        Place::Missing(_) => RouteLookup::Missing,
+        Err(_) => None,
     }
 }
 
 // The route at a place in the order, and nothing from the count on.
-pub fn at(keys: &[u16], words: &[u64], usage: &[u32], count: usize, i: usize) -> RouteLookup
+pub fn at(keys: &[u16], words: &[u64], usage: &[u32], count: usize, i: usize) -> Option<RouteEntry>
     requires { WellFormed (in_columns keys.now words.now usage.now count) }
-    ensures { result ≡ looked (entry_at i (rows_of (in_columns keys.now words.now usage.now count))) }
+    ensures { result ≡ entry_at i (rows_of (in_columns keys.now words.now usage.now count)) }
 {
     if count <= i {
-        return RouteLookup::Missing;
+        return None;
     }
     let e = entry_at(keys, words, usage, i);
-    RouteLookup::Found(e)
+    Some(e)
 }
 
 // A route stored over the one of its destination, which stands in place i.
@@ -196,7 +188,7 @@ pub fn set_at(
     i: usize,
     e: RouteEntry,
 )
-    requires { WellFormed (in_columns keys.now words.old usage.old count) × (Found i ≡ place_of (take count keys.now) (route_key e)) }
+    requires { WellFormed (in_columns keys.now words.old usage.old count) × (Ok i ≡ place_of (take count keys.now) (route_key e)) }
     ensures { Holds (in_columns keys.now words.new usage.new count)
         (put route_key e (rows_of (in_columns keys.now words.old usage.old count))) }
 {
@@ -214,14 +206,14 @@ pub fn insert_at(
     i: usize,
     e: RouteEntry,
 )
-    requires { WellFormed (in_columns keys.old words.old usage.old count) × (Missing i ≡ place_of (take count keys.old) (route_key e)) × (count < 64) }
+    requires { WellFormed (in_columns keys.old words.old usage.old count) × (Err i ≡ place_of (take count keys.old) (route_key e)) × (count < 64) }
     ensures { Holds (in_columns keys.new words.new usage.new (count + 1))
         (put route_key e (rows_of (in_columns keys.old words.old usage.old count))) }
 {
     let w = word_of(e);
-    columns::shift16(keys, i, e.destination.0);
-    columns::shift64(words, i, w);
-    columns::shift32(usage, i, e.total_usage_count);
+    columns::shift_in(keys, i, e.destination.0);
+    columns::shift_in(words, i, w);
+    columns::shift_in(usage, i, e.total_usage_count);
 }
 
 // A route at the place of its destination: over the one that is there, or put in. How many routes there are after it.
@@ -230,7 +222,7 @@ pub fn put_at(
     words: &mut [u64],
     usage: &mut [u32],
     count: usize,
-    place: Place,
+    place: Result<usize, usize>,
     e: RouteEntry,
 ) -> usize
     requires { WellFormed (in_columns keys.old words.old usage.old count) × (place ≡ place_of (take count keys.old) (route_key e)) × (count_with route_key (route_key e) (rows_of (in_columns keys.old words.old usage.old count)) ≤ 64) }
@@ -238,11 +230,11 @@ pub fn put_at(
         (put route_key e (rows_of (in_columns keys.old words.old usage.old count))) }
 {
     match place {
-        Place::Found(i) => {
+        Ok(i) => {
             set_at(keys, words, usage, count, i, e);
             count
         }
-        Place::Missing(i) => {
+        Err(i) => {
             insert_at(keys, words, usage, count, i, e);
             count + 1
         }
@@ -256,9 +248,9 @@ pub fn remove_at(keys: &mut [u16], words: &mut [u64], usage: &mut [u32], i: usiz
         × (words.new ≡ shift_out i 0 words.old)
         × (usage.new ≡ shift_out i 0 usage.old) }
 {
-    columns::out16(keys, i);
-    columns::out64(words, i);
-    columns::out32(usage, i);
+    columns::shift_out(keys, i, 0);
+    columns::shift_out(words, i, 0);
+    columns::shift_out(usage, i, 0);
 }
 
 // The route to a destination taken out, if there is one. How many routes there are after it.
@@ -275,11 +267,11 @@ pub fn remove(
 {
     let place = place_of(keys, words, usage, count, destination);
     match place {
-        Place::Found(i) => {
+        Ok(i) => {
             remove_at(keys, words, usage, i);
             count - 1
         }
-        Place::Missing(_) => count,
+        Err(_) => count,
     }
 }
 
@@ -292,7 +284,7 @@ fn decayed_entry(e: RouteEntry) -> RouteEntry
         return e;
     }
     let mut f = e;
-    f.recent_activity = types::saturating_sub_u8(e.recent_activity, 1);
+    f.recent_activity = e.recent_activity.saturating_sub(1);
     f
 }
 
@@ -304,7 +296,7 @@ fn unlinked_entry(e: RouteEntry, hop: Nwk) -> RouteEntry
     if !route_entry::is_active(s) {
         return e;
     }
-    if e.next_hop_address.0 != hop.0 {
+    if e.next_hop_address != hop {
         return e;
     }
     route_entry::with_status(e, Status::Inactive)
@@ -316,13 +308,11 @@ pub fn decay_activity(keys: &[u16], words: &mut [u64], usage: &[u32], count: usi
     ensures { Holds (in_columns keys.now words.new usage.now count)
         (map decayed (rows_of (in_columns keys.now words.old usage.now count))) }
 {
-    let mut i: usize = 0;
-    while i < count {
+    for i in 0..count {
         let e = entry_at(keys, words, usage, i);
         let f = decayed_entry(e);
         let w = word_of(f);
         words[i] = w;
-        i += 1;
     }
 }
 
@@ -332,12 +322,10 @@ pub fn invalidate_via(keys: &[u16], words: &mut [u64], usage: &[u32], count: usi
     ensures { Holds (in_columns keys.now words.new usage.now count)
         (map (unlinked hop) (rows_of (in_columns keys.now words.old usage.now count))) }
 {
-    let mut i: usize = 0;
-    while i < count {
+    for i in 0..count {
         let e = entry_at(keys, words, usage, i);
         let f = unlinked_entry(e, hop);
         let w = word_of(f);
         words[i] = w;
-        i += 1;
     }
 }

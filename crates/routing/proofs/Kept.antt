@@ -1,16 +1,14 @@
 -- Every call leaves a well-formed state well formed: a refusal hands the state back, and any other outcome puts back rows that fit, since each
 -- rule keeps the order, room was tested, and what it writes is within its width where what the caller hands in is.
+use Rattle.std.specs.Prelude.{Option, Some, None}
 use Prim.Native.Nat.{ℕ, ◌<◌, ◌≤◌}
 use native.Mathlib.Nat.{mod-lt}
 use native.Mathlib.Omega.{arith}
-use mathlib.Core.Option.{Option, none, some}
 use mathlib.Core.Path.{◌≡◌, refl}
 use borrow.Author.Tests.{leb-true}
 use lib.Dec.{leb, eqb, ltb}
 use lib.ListN.{length}
 use Rattle.types.specs.declared.Nwk.{Nwk}
-use Rattle.types.specs.declared.Sum.{Sum}
-use Rattle.types.specs.declared.Sum.TheVariants.{At, Past}
 use Rattle.types.specs.Clock.{time_sum}
 use Rattle.standard.specs.declared.DiscoveryEntry.{DiscoveryEntry}
 use Rattle.standard.specs.declared.RouteEntry.{RouteEntry}
@@ -103,10 +101,10 @@ module _ (t : Tables) (f : search.Fits t) (sender : Nwk) (cost : ℕ) (hs : send
   module _
       (k : ℕ)
       (d : DiscoveryEntry)
-      (p : lookup discovery_key k t.discoveries ≡ some d)
+      (p : lookup discovery_key k t.discoveries ≡ Some d)
       (j : ℕ)
       (r : RouteEntry)
-      (q : lookup route_key j t.routes ≡ some r)
+      (q : lookup route_key j t.routes ≡ Some r)
     where
       known : discovery.InRange d
       known = each-found discovery_key discovery.InRange k t.discoveries d f.discoveries.ranged p
@@ -148,9 +146,9 @@ module _ (t : Tables) (f : search.Fits t) (sender : Nwk) (cost : ℕ) (hs : send
       go (lookup discovery_key (pair_key originator id) t.discoveries) refl (lookup route_key responder.0 t.routes) refl where
         go : (d : Option DiscoveryEntry) → lookup discovery_key (pair_key originator id) t.discoveries ≡ d → (r : Option RouteEntry) → lookup route_key responder.0 t.routes ≡ r
             → Left (reply_to (eqb originator.0 own.0) originator sender cost t d r)
-        go none p r q = dropped-left
-        go (some d) p none q = dropped-left
-        go (some d) p (some r) q =
+        go None p r q = dropped-left
+        go (Some d) p None q = dropped-left
+        go (Some d) p (Some r) q =
             by-test Left (eqb originator.0 own.0) (reply_ours sender cost d r t) (reply_theirs originator sender cost d r t)
             (λ _. ours-left (pair_key originator id) d p responder.0 r q)
             (theirs-left (pair_key originator id) d p responder.0 r q originator)
@@ -169,8 +167,8 @@ module _ (t : Tables) (f : search.Fits t) where
     unfolding request request_to
     request-ready expires = go (lookup discovery_key (pair_key originator id) t.discoveries) refl where
       go : (d : Option DiscoveryEntry) → lookup discovery_key (pair_key originator id) t.discoveries ≡ d → Ready (request_to originator id destination sender cost m expires t d).tables
-      go none p = accepting-ready (new_discovery originator id sender cost expires destination) (new-in-range sender cost hs hc originator id expires destination ho hi hd)
-      go (some d) p =
+      go None p = accepting-ready (new_discovery originator id sender cost expires destination) (new-in-range sender cost hs hc originator id expires destination ho hi hd)
+      go (Some d) p =
           by-test (λ (x : Requested). Ready x.tables) (ltb d.forward_cost cost) _ (accepting originator sender cost m (reached sender cost d) t)
           (λ _. fits-ready t f)
           (accepting-ready (reached sender cost d) (reached-in-range sender cost hs hc d (each-found discovery_key discovery.InRange (pair_key originator id) t.discoveries d f.discoveries.ranged p)))
@@ -184,8 +182,8 @@ module _ (t : Tables) (f : search.Fits t) where
         (with_status DiscoveryUnderway (route_or destination t.routes))
         (status-in-range DiscoveryUnderway (route_or destination t.routes) (route-or-in-range t.routes f.routes destination)) where
           go : (d : Option DiscoveryEntry) → Ready (record { routes = t.routes; discoveries = kept_or d (own_discovery own id expires destination) t.discoveries })
-          go none = put-discovery t (fits-ready t f) (own_discovery own id expires destination) (own-in-range own id expires destination ho hi hd)
-          go (some d) = fits-ready t f
+          go None = put-discovery t (fits-ready t f) (own_discovery own id expires destination) (own-in-range own id expires destination ho hi hd)
+          go (Some d) = fits-ready t f
 
     advertise-ready : Ready (advertise own id expires t)
     unfolding advertise
@@ -232,11 +230,11 @@ module _ (s : Routing) (w : WellFormed s) where
   request-kept originator id destination sender cost m now span ho hi hd hs hc =
       by-test (λ (x : RouteRequestOutcome). WellFormed x.state) (well_formed s) _ _
       (λ _. go (sum_made (lookup discovery_key (pair_key originator id) (expired now (rows_in s)).discoveries) (time_sum now span))) w where
-        go : (u : Sum) → WellFormed (with_rows s (request-spec.by_time (rows_in s) u (λ (e : ℕ). request originator id destination sender cost m e (expired now (rows_in s)))).tables)
-        go (At e) =
+        go : (u : Option ℕ) → WellFormed (with_rows s (request-spec.by_time (rows_in s) u (λ (e : ℕ). request originator id destination sender cost m e (expired now (rows_in s)))).tables)
+        go (Some e) =
             requested-kept (request originator id destination sender cost m e (expired now (rows_in s)))
             (request-ready (expired now (rows_in s)) (left now) originator id destination sender cost ho hi hd hs hc m e)
-        go Past = same
+        go None = same
 
   -- what was begun, by its answer
   begun_kept : (id : ℕ) (t : Tables) → Ready t → WellFormed (begun_as s id (begin-spec.begun_with (rows_in s) id t)).state
@@ -246,9 +244,9 @@ module _ (s : Routing) (w : WellFormed s) where
       (λ m. by-test (λ (y : begin-spec.BeginStep). WellFormed (begun_as s id y).state) (leb (length t.discoveries) 32) _ _
       (λ n. let v = back t (ready-fits t r (leb-true _ 64 m) (leb-true _ 32 n)) in record { routes = v.routes; discoveries = v.discoveries; records = v.records }) w) w
 
-  by-sum : (id : ℕ) (u : Sum) (rule : ℕ → Tables) → ((e : ℕ) → Ready (rule e)) → WellFormed (begun_as s id (begin-spec.by_time (rows_in s) u id rule)).state
-  by-sum id (At e) rule r = begun_kept id (rule e) (r e)
-  by-sum id Past rule r = w
+  by-sum : (id : ℕ) (u : Option ℕ) (rule : ℕ → Tables) → ((e : ℕ) → Ready (rule e)) → WellFormed (begun_as s id (begin-spec.by_time (rows_in s) u id rule)).state
+  by-sum id (Some e) rule r = begun_kept id (rule e) (r e)
+  by-sum id None rule r = w
 
   next_small : next_id s < 256
   next_small = mod-lt _ (omega arith)

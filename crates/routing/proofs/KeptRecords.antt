@@ -1,5 +1,6 @@
 -- The calls on route records keep a well-formed state and a store that agrees with it so: records that were put where there is
 -- room, or removed, are packed into both. A refused call leaves the state and the store's every number: for want of room, by their view.
+use Rattle.std.specs.Prelude.{Ok, Err}
 use Prim.Native.Nat.{ℕ, ◌≤◌}
 use mathlib.Core.Bool.{Bool, true, false, cond}
 use mathlib.Core.List.{List}
@@ -14,16 +15,14 @@ use Rattle.standard.specs.declared.RelayList.{RelayList}
 use Rattle.standard.specs.Records.{RouteRecord, record_stored}
 use Rattle.standard.proofs.Picked.{both_by, by-test}
 use Rattle.record_table.specs.Table.{RecordTable}
-use Rattle.relay_store.specs.Packed.{records_of, Together}
+use Rattle.relay_store.specs.Packed.{Together}
 use Rattle.relay_store.specs.Store.{Agrees, relays_of, agrees}
 use Rattle.relay_store.proofs.Agree.{agrees-told}
-use Rattle.route_record.specs.declared.RecordAnswer.TheVariants.{Refused, Stored}
 use Rattle.route_record.specs.Answer.{RecordStep, stored_step, removed_step}
 use Rattle.route_record.proofs.Held.{relays-count}
 use Rattle.route_record.proofs.Kept.{stored-kept, removed-kept}
 use Rattle.routing.specs.declared.Routing.{Routing}
 use Rattle.routing.specs.declared.RecordOutcome.{RecordOutcome}
-use Rattle.routing.specs.declared.ToldAnswer.TheVariants as told
 use Rattle.routing.specs.declared.ToldOutcome.{ToldOutcome}
 use Rattle.routing.specs.Records.{records_in, recorded_in, store_route_record, store_after_record, store_after_record_core, remove_route_record, store_after_removal}
 use Rattle.routing.specs.State.{WellFormed, well_formed, route_table, discovery_table, record_table, with_tables}
@@ -65,18 +64,18 @@ module _ (s : Routing) (store : List ℕ) (h : Held s store) where
         kept : (b : Bool) (x y : ToldOutcome) (u v : List ℕ) → (b ≡ true → Held x.state u) → (b ≡ false → Held y.state v) → Held (cond b x y).state (cond b u v)
         kept = both_by (λ (x : ToldOutcome) (u : List ℕ). Held x.state u)
 
-stored-never : (b : Bool) (n : Refusal) (xs ys : List RouteRecord) → Stored b ≡ Refused n → xs ≡ ys
+stored-never : (b : Bool) (n : Refusal) (xs ys : List RouteRecord) → Ok b ≡ Err n → xs ≡ ys
 stored-never b n xs ys e = cc
 
 -- a step that is refused leaves the records
-refused-records : (source : Nwk) (relays : List Nwk) (xs : List RouteRecord) (n : Refusal) → (stored_step source relays xs).answer ≡ Refused n → (stored_step source relays xs).records ≡ xs
+refused-records : (source : Nwk) (relays : List Nwk) (xs : List RouteRecord) (n : Refusal) → (stored_step source relays xs).answer ≡ Err n → (stored_step source relays xs).records ≡ xs
 unfolding stored_step
 refused-records source relays xs n =
-    by-test (λ (x : RecordStep). x.answer ≡ Refused n → x.records ≡ xs) (leb (length (record_stored source relays xs)) 64) _ _ (λ _ e. stored-never _ n _ xs e) (λ _. refl)
+    by-test (λ (x : RecordStep). x.answer ≡ Err n → x.records ≡ xs) (leb (length (record_stored source relays xs)) 64) _ _ (λ _ e. stored-never _ n _ xs e) (λ _. refl)
 
 -- what a refused call leaves: the state and the store that were given
 abbrev Stays : Routing → List ℕ → Refusal → RecordOutcome → List ℕ → Type 0
-Stays s store n x after = x.answer ≡ Refused n → (x.state ≡ s) × (after ≡ store)
+Stays s store n x after = x.answer ≡ Err n → (x.state ≡ s) × (after ≡ store)
 
 refused-step : (s : Routing) (store : List ℕ) (source : Nwk) (relays : RelayList) (n : Refusal) → Held s store
     → Stays s store n (recorded_in s (stored_step source (relays_of relays) (records_in s store))) (store_after_record_core s source relays store)
@@ -99,24 +98,24 @@ refused-record s store source relays n =
 
 -- a refused route record leaves the store, whatever state and store are
 pub refused-record-store : (s : Routing) (store : List ℕ) (source : Nwk) (relays : RelayList) (n : Refusal)
-    → (store_route_record s source relays store).answer ≡ Refused n → store_after_record s source relays store ≡ store
+    → (store_route_record s source relays store).answer ≡ Err n → store_after_record s source relays store ≡ store
 refused-record-store s store source relays n e = (refused-record s store source relays n e).1
 
 -- and the state
 pub refused-record-state : (s : Routing) (store : List ℕ) (source : Nwk) (relays : RelayList) (n : Refusal)
-    → (store_route_record s source relays store).answer ≡ Refused n → (store_route_record s source relays store).state ≡ s
+    → (store_route_record s source relays store).answer ≡ Err n → (store_route_record s source relays store).state ≡ s
 refused-record-state s store source relays n e = (refused-record s store source relays n e).0
 
-told-never : (b : Bool) (n : Refusal) (u v : List ℕ) → told.Told b ≡ told.Refused n → u ≡ v
+told-never : (b : Bool) (n : Refusal) (u v : List ℕ) → Ok b ≡ Err n → u ≡ v
 told-never b n u v e = cc
 
 -- a refused removal leaves the store, whatever state and store are
 pub refused-removal-store : (s : Routing) (store : List ℕ) (d : Nwk) (n : Refusal)
-    → (remove_route_record s d store).answer ≡ told.Refused n → store_after_removal s d store ≡ store
+    → (remove_route_record s d store).answer ≡ Err n → store_after_removal s d store ≡ store
 unfolding remove_route_record store_after_removal
 refused-removal-store s store d n =
     stays (well_formed s) _ _ _ _
     (λ _. stays (agrees (record_table s) store) _ _ _ _ (λ _ e. told-never _ n _ store e) (λ _ _. refl))
     (λ _ _. refl) where
-      stays : (b : Bool) (x y : ToldOutcome) (u v : List ℕ) → (b ≡ true → x.answer ≡ told.Refused n → u ≡ store) → (b ≡ false → y.answer ≡ told.Refused n → v ≡ store) → (cond b x y).answer ≡ told.Refused n → cond b u v ≡ store
-      stays = both_by (λ (x : ToldOutcome) (u : List ℕ). x.answer ≡ told.Refused n → u ≡ store)
+      stays : (b : Bool) (x y : ToldOutcome) (u v : List ℕ) → (b ≡ true → x.answer ≡ Err n → u ≡ store) → (b ≡ false → y.answer ≡ Err n → v ≡ store) → (cond b x y).answer ≡ Err n → cond b u v ≡ store
+      stays = both_by (λ (x : ToldOutcome) (u : List ℕ). x.answer ≡ Err n → u ≡ store)

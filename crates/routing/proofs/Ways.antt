@@ -1,7 +1,7 @@
 -- The relays beside an answer of the route query, and of the record at a place, are blank unless the answer is the one that names them.
+use Rattle.std.specs.Prelude.{Option, Some, None, Result, Ok, Err}
 use Prim.Native.Nat.{ℕ}
 use mathlib.Core.List.{List, []}
-use mathlib.Core.Option.{Option, none, some}
 use mathlib.Core.Path.{◌≡◌, refl}
 use lib.Dec.{eqb, ltb}
 use lib.ListN.{length}
@@ -15,25 +15,25 @@ use Rattle.routing.specs.declared.Routing.{Routing}
 use Rattle.routing.specs.declared.RouteToAnswer.{RouteToAnswer}
 use Rattle.routing.specs.declared.RouteToAnswer.TheVariants as way
 use Rattle.routing.specs.declared.RouteToOutcome.{RouteToOutcome}
-use Rattle.routing.specs.declared.RecordAtAnswer.{RecordAtAnswer}
-use Rattle.routing.specs.declared.RecordAtAnswer.TheVariants as record-at
 use Rattle.routing.specs.declared.RecordAtOutcome.{RecordAtOutcome}
 use Rattle.routing.specs.Records.{way_in, route_to, row_in}
 use Rattle.routing.specs.Records as exported
 use Rattle.routing.specs.State.{well_formed, record_table}
 use Rattle.standard.proofs.Picked.{by-test}
+use Rattle.types.specs.declared.Refusal.{Refusal}
+use Rattle.standard.specs.declared.RecordEntry.{RecordEntry}
 
 -- the answers that name relays
-abbrev pub NamesRelays : RouteToAnswer → Type 0
-NamesRelays way.SourceRoute = Unit {0}
-NamesRelays way.NoRoute = ⊥
-NamesRelays (way.NextHop n) = ⊥
-NamesRelays (way.Refused n) = ⊥
+abbrev pub NamesRelays : Result RouteToAnswer Refusal → Type 0
+NamesRelays (Ok way.SourceRoute) = Unit {0}
+NamesRelays (Ok way.NoRoute) = ⊥
+NamesRelays (Ok (way.NextHop n)) = ⊥
+NamesRelays (Err n) = ⊥
 
-abbrev pub IsFound : RecordAtAnswer → Type 0
-IsFound (record-at.Found e) = Unit {0}
-IsFound record-at.Missing = ⊥
-IsFound (record-at.Refused n) = ⊥
+abbrev pub IsFound : Result (Option RecordEntry) Refusal → Type 0
+IsFound (Ok (Some e)) = Unit {0}
+IsFound (Ok None) = ⊥
+IsFound (Err n) = ⊥
 
 abbrev pub BlankWay : RouteToOutcome → Type 0
 BlankWay o = (NamesRelays o.answer → ⊥) → o.relays ≡ relay_list []
@@ -42,8 +42,8 @@ abbrev pub BlankAt : RecordAtOutcome → Type 0
 BlankAt o = (IsFound o.answer → ⊥) → o.relays ≡ relay_list []
 
 way-blank : (s : Routing) (d : Nwk) (limit : ℕ) (x : Option RouteRecord) → BlankWay (way_in s d (listed (way_by limit x)))
-way-blank s d limit none = λ _. refl
-way-blank s d limit (some x) =
+way-blank s d limit None = λ _. refl
+way-blank s d limit (Some x) =
     by-test (λ (w : Way). BlankWay (way_in s d (listed w))) (eqb (length x.relays) 0) _ _ (λ _ _. refl)
     (by-test (λ (w : Way). BlankWay (way_in s d (listed w))) (ltb (length x.relays) limit) _ _ (λ _ no. absurd (no tt)) (λ _. refl))
 
@@ -56,8 +56,8 @@ route-to-blank s d limit store =
     (λ _. refl)
 
 row-blank : (x : Option RouteRecord) → BlankAt (row_in (row_for x))
-row-blank none = λ _. refl
-row-blank (some x) = λ no. absurd (no tt)
+row-blank None = λ _. refl
+row-blank (Some x) = λ no. absurd (no tt)
 
 -- a record at a place names relays only where there is one
 pub record-at-blank : (s : Routing) (place : ℕ) (store : List ℕ) → BlankAt (exported.record_at s place store)

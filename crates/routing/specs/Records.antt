@@ -1,10 +1,10 @@
 -- The exported calls on route records, whose relays are in a lent store: the answer and the state, and the store after the call.
 -- Document 01, "Route rules", "Route record" and "Route to D"; "Refusal numbers", 10, 9 and 8 before the call, 3 and 6 in it.
 -- Assumes nothing.
-use Rattle.std.specs.Prelude.{ℕ, cond, List, [], ltb, length}
+use Rattle.std.specs.Prelude.{ℕ, cond, List, [], ltb, length, Option, Some, None, Result, Ok, Err}
 use Rattle.types.specs.declared.Nwk.{Nwk}
 use Rattle.types.specs.declared.Refusal.{Refusal}
-use Rattle.types.specs.declared.Refusal.TheVariants.{StateIllFormed, StoreDisagrees, ListTooLong, UnknownNextHop}
+use Rattle.types.specs.declared.Refusal.TheVariants.{StateIllFormed, StoreDisagrees, ListTooLong}
 use Rattle.standard.specs.declared.RecordRoute.{RecordRoute}
 use Rattle.standard.specs.declared.RecordRoute.TheVariants as record-route
 use Rattle.standard.specs.declared.RelayList.{RelayList}
@@ -13,29 +13,19 @@ use Rattle.standard.specs.Calls.{hop_at}
 use Rattle.standard.specs.Ordered.{lookup, remove}
 use Rattle.standard.specs.Query.{is_there}
 use Rattle.standard.specs.Records.{RouteRecord, address_key}
-use Rattle.record_table.specs.declared.RecordLookup.{RecordLookup}
-use Rattle.record_table.specs.declared.RecordLookup.TheVariants as record-lookup
 use Rattle.record_table.specs.Table as records
 use Rattle.relay_store.specs.Store.{relays_of, relay_list, agrees}
 use Rattle.relay_store.specs.Packed.{records_of, table_for, store_for}
-use Rattle.route_calls.specs.declared.HopAnswer.{HopAnswer}
-use Rattle.route_calls.specs.declared.HopAnswer.TheVariants as hop
 use Rattle.route_calls.specs.Answer.{hop_answer}
-use Rattle.route_record.specs.declared.RecordAnswer.TheVariants as record-answer
 use Rattle.route_record.specs.declared.RecordWay.{RecordWay}
 use Rattle.route_record.specs.declared.RecordRow.{RecordRow}
 use Rattle.route_record.specs.Answer.{RecordStep, stored_step, way_to, record_held}
 use Rattle.routing.specs.declared.Routing.{Routing}
-use Rattle.routing.specs.declared.CountOutcome.{CountOutcome}
-use Rattle.routing.specs.declared.CountOutcome.TheVariants as CountOutcome
-use Rattle.routing.specs.declared.RecordAtAnswer.{RecordAtAnswer}
-use Rattle.routing.specs.declared.RecordAtAnswer.TheVariants as record-at
 use Rattle.routing.specs.declared.RecordAtOutcome.{RecordAtOutcome}
 use Rattle.routing.specs.declared.RecordOutcome.{RecordOutcome}
 use Rattle.routing.specs.declared.RouteToAnswer.{RouteToAnswer}
 use Rattle.routing.specs.declared.RouteToAnswer.TheVariants as way
 use Rattle.routing.specs.declared.RouteToOutcome.{RouteToOutcome}
-use Rattle.routing.specs.declared.ToldAnswer.TheVariants as told
 use Rattle.routing.specs.declared.ToldOutcome.{ToldOutcome}
 use Rattle.routing.specs.Routes.{routes_in, refused_told}
 use Rattle.routing.specs.State.{well_formed, route_table, discovery_table, record_table, with_tables}
@@ -52,10 +42,10 @@ recorded_in s x = record { answer = x.answer; state = with_records s x.records }
 
 -- "All hand back the given state .. and store unchanged and no other answer."
 abbrev pub refused_record : Routing → Refusal → RecordOutcome
-refused_record s n = record { answer = record-answer.Refused n; state = s }
+refused_record s n = record { answer = Err n; state = s }
 
 abbrev pub refused_way : Refusal → RouteToOutcome
-refused_way n = record { answer = way.Refused n; relays = relay_list [] }
+refused_way n = record { answer = Err n; relays = relay_list [] }
 
 -- A route record of a source: the answer and the state, and the store after it.
 abbrev pub store_route_record_core : Routing → Nwk → RelayList → List ℕ → RecordOutcome
@@ -81,7 +71,7 @@ store_after_record s source relays store =
 -- The record of a destination is removed; whether there was one, and the store after it.
 abbrev pub remove_route_record_core : Routing → Nwk → List ℕ → ToldOutcome
 remove_route_record_core s destination store = record {
-  answer = told.Told (is_there (lookup address_key destination.0 (records_in s store)));
+  answer = Ok (is_there (lookup address_key destination.0 (records_in s store)));
   state = with_records s (remove address_key destination.0 (records_in s store));
 }
 
@@ -99,18 +89,18 @@ store_after_removal s destination store =
     cond (well_formed s) (cond (agrees (record_table s) store) (store_after_removal_core s destination store) store) store
 
 -- "the hop to be returned, by .. the route query .., is 0xFFFF from an Active route": 6
-abbrev pub hop_to : HopAnswer → RouteToAnswer
-hop_to hop.NoRoute = way.NoRoute
-hop_to (hop.Hop n) = way.NextHop n
-hop_to hop.Unknown = way.Refused UnknownNextHop
+abbrev pub hop_to : Result (Option Nwk) Refusal → Result RouteToAnswer Refusal
+hop_to (Ok None) = Ok way.NoRoute
+hop_to (Ok (Some n)) = Ok (way.NextHop n)
+hop_to (Err why) = Err why
 
 -- "an empty record is direct; fewer relays than the limit give a source route; else the Active route"
-abbrev pub answer_in : List RouteEntry → Nwk → RecordRoute → RouteToAnswer
-answer_in routes destination record-route.Direct = way.NextHop destination
-answer_in routes destination record-route.SourceRoute = way.SourceRoute
-answer_in routes destination record-route.None = hop_to (hop_answer (hop_at destination.0 routes))
+abbrev pub answer_in : List RouteEntry → Nwk → Option RecordRoute → Result RouteToAnswer Refusal
+answer_in routes destination (Some record-route.Direct) = Ok (way.NextHop destination)
+answer_in routes destination (Some record-route.SourceRoute) = Ok way.SourceRoute
+answer_in routes destination None = hop_to (hop_answer (hop_at destination.0 routes))
 
-abbrev pub answer_by : Routing → Nwk → RecordRoute → RouteToAnswer
+abbrev pub answer_by : Routing → Nwk → Option RecordRoute → Result RouteToAnswer Refusal
 answer_by s destination x = answer_in (routes_in s) destination x
 
 abbrev pub way_in : Routing → Nwk → RecordWay → RouteToOutcome
@@ -130,22 +120,17 @@ abbrev pub route_to_default : Routing → Nwk → List ℕ → RouteToOutcome
 route_to_default s destination store = route_to s destination 12 store
 
 -- How many route records there are.
-abbrev pub record_count_core : Routing → CountOutcome
-record_count_core s = CountOutcome.Answered (length (records.rows_of (record_table s)))
+abbrev pub record_count_core : Routing → Result ℕ Refusal
+record_count_core s = Ok (length (records.rows_of (record_table s)))
 
-unfoldable pub record_count : Routing → CountOutcome
-record_count s = cond (well_formed s) (record_count_core s) (CountOutcome.Refused StateIllFormed)
-
--- The route record at a place in ascending order with its relays, and nothing from the count on.
-abbrev pub record_here : RecordLookup → RecordAtAnswer
-record_here record-lookup.Missing = record-at.Missing
-record_here (record-lookup.Found e) = record-at.Found e
+unfoldable pub record_count : Routing → Result ℕ Refusal
+record_count s = cond (well_formed s) (record_count_core s) (Err StateIllFormed)
 
 abbrev pub refused_record_at : Refusal → RecordAtOutcome
-refused_record_at n = record { answer = record-at.Refused n; relays = relay_list [] }
+refused_record_at n = record { answer = Err n; relays = relay_list [] }
 
 abbrev pub row_in : RecordRow → RecordAtOutcome
-row_in x = record { answer = record_here x.entry; relays = x.relays }
+row_in x = record { answer = Ok x.entry; relays = x.relays }
 
 abbrev pub record_at_core : Routing → ℕ → List ℕ → RecordAtOutcome
 record_at_core s place store = row_in (record_held place (record_table s) store)

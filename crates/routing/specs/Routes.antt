@@ -1,7 +1,7 @@
 -- The exported calls that change the route table alone: refusal 10 for a state that is not well formed, else the call on the rows, put back.
 -- Document 01, "Route rules" and "Refusal numbers".
 -- Assumes nothing.
-use Rattle.std.specs.Prelude.{ℕ, cond, List, map}
+use Rattle.std.specs.Prelude.{ℕ, cond, List, map, Ok, Err}
 use Rattle.types.specs.declared.Nwk.{Nwk}
 use Rattle.types.specs.declared.Refusal.{Refusal}
 use Rattle.types.specs.declared.Refusal.TheVariants.{StateIllFormed}
@@ -12,11 +12,9 @@ use Rattle.standard.specs.Calls.{change_route, note_relayed, has_route}
 use Rattle.standard.specs.Ordered.{remove}
 use Rattle.standard.specs.Route.{route_key, with_status, used, record_known, decayed, unlinked}
 use Rattle.route_table.specs.Table.{rows_of, table_of}
-use Rattle.route_calls.specs.declared.RouteAnswer.TheVariants as route-answer
 use Rattle.route_calls.specs.Answer.{RouteStep, step_to}
 use Rattle.routing.specs.declared.Routing.{Routing}
 use Rattle.routing.specs.declared.DoneOutcome.{DoneOutcome}
-use Rattle.routing.specs.declared.ToldAnswer.TheVariants.{Refused, Told}
 use Rattle.routing.specs.declared.ToldOutcome.{ToldOutcome}
 use Rattle.routing.specs.State.{well_formed, route_table, discovery_table, record_table, with_tables}
 
@@ -28,16 +26,16 @@ abbrev pub with_routes : Routing → List RouteEntry → Routing
 with_routes s xs = with_tables s (table_of xs) (discovery_table s) (record_table s)
 
 abbrev pub done_with : Routing → List RouteEntry → DoneOutcome
-done_with s xs = record { answer = route-answer.Done; state = with_routes s xs }
+done_with s xs = record { answer = Ok tt; state = with_routes s xs }
 
 abbrev pub stepped_to : Routing → RouteStep → DoneOutcome
 stepped_to s x = record { answer = x.answer; state = with_routes s x.rows }
 
 abbrev pub refused_done : Routing → DoneOutcome
-refused_done s = record { answer = route-answer.Refused StateIllFormed; state = s }
+refused_done s = record { answer = Err StateIllFormed; state = s }
 
 abbrev pub refused_told : Routing → Refusal → ToldOutcome
-refused_told s n = record { answer = Refused n; state = s }
+refused_told s n = record { answer = Err n; state = s }
 
 -- No discovery of the way to a destination has brought one.
 abbrev pub mark_discovery_failed_core : Routing → Nwk → DoneOutcome
@@ -91,7 +89,7 @@ note_relayed_discovery s destination = cond (well_formed s) (note_relayed_discov
 -- The route to a destination is removed; whether there was one.
 abbrev pub remove_route_core : Routing → Nwk → ToldOutcome
 remove_route_core s destination = record {
-  answer = Told (has_route destination.0 (routes_in s));
+  answer = Ok (has_route destination.0 (routes_in s));
   state = with_routes s (remove route_key destination.0 (routes_in s));
 }
 

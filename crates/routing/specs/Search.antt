@@ -1,24 +1,21 @@
 -- The exported calls of route search: refusal 10 for a state that is not well formed, else the outcome on the rows, put back into their columns.
 -- Document 01, "Route rules" and "Refusal numbers".
 -- Assumes nothing.
-use Rattle.std.specs.Prelude.{ℕ, ◌+◌, ◌%◌, cond}
+use Rattle.std.specs.Prelude.{ℕ, ◌+◌, ◌%◌, cond, Result, Ok, Err}
 use Rattle.types.specs.declared.Nwk.{Nwk}
 use Rattle.types.specs.declared.Refusal.TheVariants.{StateIllFormed}
 use Rattle.standard.specs.declared.ManyToOne.{ManyToOne}
 use Rattle.standard.specs.Reply.{reply}
 use Rattle.standard.specs.Tables.{Tables}
-use Rattle.route_reply.specs.declared.ReplyAnswer.TheVariants as reply-answer
 use Rattle.route_reply.specs.Answer.{ReplyStep, answered}
-use Rattle.route_request.specs.declared.RequestAnswer.TheVariants as request-answer
 use Rattle.route_request.specs.Answer.{RequestStep, requested}
-use Rattle.route_begin.specs.declared.BeginAnswer.{BeginAnswer}
-use Rattle.route_begin.specs.declared.BeginAnswer.TheVariants.{Refused, Begun}
 use Rattle.route_begin.specs.Answer.{BeginStep, begun, advertised}
 use Rattle.routing.specs.declared.Routing.{Routing}
 use Rattle.routing.specs.declared.RouteReplyOutcome.{RouteReplyOutcome}
 use Rattle.routing.specs.declared.RouteRequestOutcome.{RouteRequestOutcome}
 use Rattle.routing.specs.declared.BeginOutcome.{BeginOutcome}
 use Rattle.routing.specs.State.{well_formed, rows_in, with_rows, with_id}
+use Rattle.types.specs.declared.Refusal.{Refusal}
 
 abbrev pub replied : Routing → ReplyStep → RouteReplyOutcome
 replied s x = record { answer = x.answer; state = with_rows s x.tables }
@@ -31,7 +28,7 @@ unfoldable pub accept_route_reply : Routing → Nwk → Nwk → ℕ → Nwk → 
 accept_route_reply s own originator id responder sender cost =
     cond (well_formed s)
     (accept_route_reply_core s own originator id responder sender cost)
-    (record { answer = reply-answer.Refused StateIllFormed; state = s })
+    (record { answer = Err StateIllFormed; state = s })
 
 abbrev pub request_answered : Routing → RequestStep → RouteRequestOutcome
 request_answered s x = record { answer = x.answer; state = with_rows s x.tables }
@@ -44,12 +41,12 @@ unfoldable pub accept_route_request : Routing → Nwk → ℕ → Nwk → Nwk �
 accept_route_request s originator id destination sender cost many_to_one now span =
     cond (well_formed s)
     (accept_route_request_core s originator id destination sender cost many_to_one now span)
-    (record { answer = request-answer.Refused StateIllFormed; state = s })
+    (record { answer = Err StateIllFormed; state = s })
 
 -- "the id goes up by one, 255 to 0"; a refused call hands back the state with its id
-abbrev pub begun_by : BeginAnswer → Routing → ℕ → Tables → BeginOutcome
-begun_by (Refused why) s id t = record { answer = Refused why; state = s }
-begun_by (Begun i) s id t = record { answer = Begun i; state = with_id (with_rows s t) id }
+abbrev pub begun_by : Result ℕ Refusal → Routing → ℕ → Tables → BeginOutcome
+begun_by (Err why) s id t = record { answer = Err why; state = s }
+begun_by (Ok i) s id t = record { answer = Ok i; state = with_id (with_rows s t) id }
 
 abbrev pub begun_as : Routing → ℕ → BeginStep → BeginOutcome
 begun_as s id x = begun_by x.answer s id x.tables
@@ -65,7 +62,7 @@ unfoldable pub begin_discovery : Routing → Nwk → Nwk → ℕ → ℕ → Beg
 begin_discovery s own destination now span =
     cond (well_formed s)
     (begin_discovery_core s own destination now span)
-    (record { answer = Refused StateIllFormed; state = s })
+    (record { answer = Err StateIllFormed; state = s })
 
 -- A many-to-one advertisement.
 abbrev pub begin_many_to_one_advertisement_core : Routing → Nwk → ℕ → ℕ → BeginOutcome
@@ -75,4 +72,4 @@ unfoldable pub begin_many_to_one_advertisement : Routing → Nwk → ℕ → ℕ
 begin_many_to_one_advertisement s own now span =
     cond (well_formed s)
     (begin_many_to_one_advertisement_core s own now span)
-    (record { answer = Refused StateIllFormed; state = s })
+    (record { answer = Err StateIllFormed; state = s })

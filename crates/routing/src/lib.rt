@@ -12,14 +12,8 @@ ghost use Rattle.record_table.specs.Table as record_of;
 ghost use Rattle.routing.specs.State.{well_formed, formed_in, fresh};
 ghost use Rattle.routing.specs.Search.{accept_route_reply, accept_route_request, begin_discovery, begin_many_to_one_advertisement};
 
-use discovery_table::{Deadline, DiscoveryLookup};
-use route_begin::BeginAnswer;
-use route_calls::{Checked, RouteAnswer, StatusAnswer};
-use route_record::RecordAnswer;
-use route_reply::ReplyAnswer;
-use route_request::RequestAnswer;
-use route_table::RouteLookup;
-use standard::{ManyToOne, RecordEntry, RelayList};
+use route_calls::Checked;
+use standard::{ManyToOne, RecordEntry, RelayList, RouteReplyDisposition, RouteUpdate};
 use types::{Nwk, Refusal};
 
 // The trigger counters, the last request id, and the columns of the three tables: routes, discoveries, route records.
@@ -44,120 +38,54 @@ pub struct Routing {
 // That a call is done or refused, and the state after it.
 #[derive(Drop)]
 pub struct DoneOutcome {
-    pub answer: RouteAnswer,
+    pub answer: Result<(), Refusal>,
     pub state: Routing,
-}
-
-// What a call that tells yes or no is answered.
-#[derive(Drop)]
-pub enum ToldAnswer {
-    Refused(Refusal),
-    Told(bool),
 }
 
 #[derive(Drop)]
 pub struct ToldOutcome {
-    pub answer: ToldAnswer,
+    pub answer: Result<bool, Refusal>,
     pub state: Routing,
-}
-
-// How a route stands, asked.
-#[derive(Drop)]
-pub enum StatusOutcome {
-    Refused(Refusal),
-    Answered(StatusAnswer),
-}
-
-// The next hop, asked.
-#[derive(Drop)]
-pub enum HopOutcome {
-    Refused(Refusal),
-    NoRoute,
-    Hop(Nwk),
-}
-
-// When a discovery is over, asked.
-#[derive(Drop)]
-pub enum DeadlineOutcome {
-    Refused(Refusal),
-    Answered(Deadline),
-}
-
-// How many rows a table has, asked.
-#[derive(Drop)]
-pub enum CountOutcome {
-    Refused(Refusal),
-    Answered(usize),
-}
-
-// The route at a place, asked.
-#[derive(Drop)]
-pub enum RouteAtOutcome {
-    Refused(Refusal),
-    Answered(RouteLookup),
-}
-
-// The discovery at a place, asked.
-#[derive(Drop)]
-pub enum DiscoveryAtOutcome {
-    Refused(Refusal),
-    Answered(DiscoveryLookup),
-}
-
-// The table check, asked.
-#[derive(Drop)]
-pub enum CheckOutcome {
-    Refused(Refusal),
-    Answered(Checked),
 }
 
 // A reply's answer, and the state after it.
 #[derive(Drop)]
 pub struct RouteReplyOutcome {
-    pub answer: ReplyAnswer,
+    pub answer: Result<(RouteReplyDisposition, Option<RouteUpdate>), Refusal>,
     pub state: Routing,
 }
 
 // A request's answer, and the state after it.
 #[derive(Drop)]
 pub struct RouteRequestOutcome {
-    pub answer: RequestAnswer,
+    pub answer: Result<(bool, Option<RouteUpdate>), Refusal>,
     pub state: Routing,
 }
 
 // The request id of what was begun, and the state after it.
 #[derive(Drop)]
 pub struct BeginOutcome {
-    pub answer: BeginAnswer,
+    pub answer: Result<u8, Refusal>,
     pub state: Routing,
 }
 
 // Whether a route record changed what is known of its source, and the state after it.
 #[derive(Drop)]
 pub struct RecordOutcome {
-    pub answer: RecordAnswer,
+    pub answer: Result<bool, Refusal>,
     pub state: Routing,
-}
-
-// The route record at a place, asked.
-#[derive(Drop)]
-pub enum RecordAtAnswer {
-    Refused(Refusal),
-    Missing,
-    Found(RecordEntry),
 }
 
 // The relays of a record that is found are beside the answer; they are blank beside any other.
 #[derive(Drop)]
 pub struct RecordAtOutcome {
-    pub answer: RecordAtAnswer,
+    pub answer: Result<Option<RecordEntry>, Refusal>,
     pub relays: RelayList,
 }
 
 // The way to a destination, asked.
 #[derive(Drop)]
 pub enum RouteToAnswer {
-    Refused(Refusal),
     NoRoute,
     NextHop(Nwk),
     SourceRoute,
@@ -166,7 +94,7 @@ pub enum RouteToAnswer {
 // The relays of a source route are beside the answer; they are blank beside any other.
 #[derive(Drop)]
 pub struct RouteToOutcome {
-    pub answer: RouteToAnswer,
+    pub answer: Result<RouteToAnswer, Refusal>,
     pub relays: RelayList,
 }
 
@@ -281,7 +209,7 @@ impl Routing {
             self.records,
         ) {
             return RouteReplyOutcome {
-                answer: ReplyAnswer::Refused(Refusal::StateIllFormed),
+                answer: Err(Refusal::StateIllFormed),
                 state: self,
             };
         }
@@ -359,7 +287,7 @@ impl Routing {
             self.records,
         ) {
             return RouteRequestOutcome {
-                answer: RequestAnswer::Refused(Refusal::StateIllFormed),
+                answer: Err(Refusal::StateIllFormed),
                 state: self,
             };
         }
@@ -435,7 +363,7 @@ impl Routing {
             self.records,
         ) {
             return BeginOutcome {
-                answer: BeginAnswer::Refused(Refusal::StateIllFormed),
+                answer: Err(Refusal::StateIllFormed),
                 state: self,
             };
         }
@@ -456,7 +384,7 @@ impl Routing {
             route_discovery_time,
         );
         let answer = x.answer;
-        let BeginAnswer::Begun(_) = answer else {
+        let Ok(_) = answer else {
             return BeginOutcome {
                 answer,
                 state: self,
@@ -514,7 +442,7 @@ impl Routing {
             self.records,
         ) {
             return BeginOutcome {
-                answer: BeginAnswer::Refused(Refusal::StateIllFormed),
+                answer: Err(Refusal::StateIllFormed),
                 state: self,
             };
         }
@@ -534,7 +462,7 @@ impl Routing {
             route_discovery_time,
         );
         let answer = x.answer;
-        let BeginAnswer::Begun(_) = answer else {
+        let Ok(_) = answer else {
             return BeginOutcome {
                 answer,
                 state: self,

@@ -4,33 +4,20 @@ ghost use Rattle.routing.specs.State.{WellFormed};
 ghost use Rattle.routing.specs.Routes.{routes_in};
 ghost use Rattle.route_calls.specs.Answer.{hop_answer};
 ghost use Rattle.standard.specs.Calls.{hop_at};
-ghost use Rattle.routing.specs.Queries.{route_status, discovery_deadline, route_count, discovery_count, route_at, discovery_at, check_tables, hop_outcome, next_hop_of, note_route_error, note_delivery_failure, reset_mtorr_triggers};
+ghost use Rattle.routing.specs.Queries.{route_status, discovery_deadline, route_count, discovery_count, route_at, discovery_at, check_tables, next_hop_of, note_route_error, note_delivery_failure, reset_mtorr_triggers};
 
-use crate::{
-    CheckOutcome, CountOutcome, DeadlineOutcome, DiscoveryAtOutcome, DoneOutcome, HopOutcome,
-    RouteAtOutcome, Routing, StatusOutcome, ToldAnswer, ToldOutcome,
-};
-use route_calls::{HopAnswer, RouteAnswer};
+use crate::{DoneOutcome, Routing, ToldOutcome};
+use route_calls::Checked;
+use standard::{DiscoveryEntry, RouteEntry, Status};
 use types::{Nwk, Refusal};
-
-// The hop that the route table names, as an answer: one that is not known is refusal 6.
-fn hop_outcome(hop: HopAnswer) -> HopOutcome
-    ensures { result ≡ hop_outcome hop }
-{
-    match hop {
-        HopAnswer::NoRoute => HopOutcome::NoRoute,
-        HopAnswer::Hop(n) => HopOutcome::Hop(n),
-        HopAnswer::Unknown => HopOutcome::Refused(Refusal::UnknownNextHop),
-    }
-}
 
 impl Routing {
     // How the route to a destination stands.
-    pub fn route_status(self, destination: Nwk) -> StatusOutcome
+    pub fn route_status(self, destination: Nwk) -> Result<Option<Status>, Refusal>
         ensures { result ≡ route_status self destination }
     {
         if !self.well_formed() {
-            return StatusOutcome::Refused(Refusal::StateIllFormed);
+            return Err(Refusal::StateIllFormed);
         }
         let route_keys = self.route_keys;
         let route_words = self.route_words;
@@ -42,15 +29,15 @@ impl Routing {
             self.routes,
             destination,
         );
-        StatusOutcome::Answered(answer)
+        Ok(answer)
     }
 
     // When the first live discovery of the way to a destination is over.
-    pub fn discovery_deadline(self, destination: Nwk, now: u64) -> DeadlineOutcome
+    pub fn discovery_deadline(self, destination: Nwk, now: u64) -> Result<Option<u64>, Refusal>
         ensures { result ≡ discovery_deadline self destination now }
     {
         if !self.well_formed() {
-            return DeadlineOutcome::Refused(Refusal::StateIllFormed);
+            return Err(Refusal::StateIllFormed);
         }
         let discovery_keys = self.discovery_keys;
         let discovery_words = self.discovery_words;
@@ -63,49 +50,49 @@ impl Routing {
             destination,
             now,
         );
-        DeadlineOutcome::Answered(answer)
+        Ok(answer)
     }
 
     // How many routes there are.
-    pub fn route_count(self) -> CountOutcome
+    pub fn route_count(self) -> Result<usize, Refusal>
         ensures { result ≡ route_count self }
     {
         if !self.well_formed() {
-            return CountOutcome::Refused(Refusal::StateIllFormed);
+            return Err(Refusal::StateIllFormed);
         }
-        CountOutcome::Answered(self.routes)
+        Ok(self.routes)
     }
 
     // How many discoveries there are.
-    pub fn discovery_count(self) -> CountOutcome
+    pub fn discovery_count(self) -> Result<usize, Refusal>
         ensures { result ≡ discovery_count self }
     {
         if !self.well_formed() {
-            return CountOutcome::Refused(Refusal::StateIllFormed);
+            return Err(Refusal::StateIllFormed);
         }
-        CountOutcome::Answered(self.discoveries)
+        Ok(self.discoveries)
     }
 
     // The route at a place in ascending order, and nothing from the count on.
-    pub fn route_at(self, place: usize) -> RouteAtOutcome
+    pub fn route_at(self, place: usize) -> Result<Option<RouteEntry>, Refusal>
         ensures { result ≡ route_at self place }
     {
         if !self.well_formed() {
-            return RouteAtOutcome::Refused(Refusal::StateIllFormed);
+            return Err(Refusal::StateIllFormed);
         }
         let route_keys = self.route_keys;
         let route_words = self.route_words;
         let route_usage = self.route_usage;
         let answer = route_table::at(&route_keys, &route_words, &route_usage, self.routes, place);
-        RouteAtOutcome::Answered(answer)
+        Ok(answer)
     }
 
     // The discovery at a place in ascending order, and nothing from the count on.
-    pub fn discovery_at(self, place: usize) -> DiscoveryAtOutcome
+    pub fn discovery_at(self, place: usize) -> Result<Option<DiscoveryEntry>, Refusal>
         ensures { result ≡ discovery_at self place }
     {
         if !self.well_formed() {
-            return DiscoveryAtOutcome::Refused(Refusal::StateIllFormed);
+            return Err(Refusal::StateIllFormed);
         }
         let discovery_keys = self.discovery_keys;
         let discovery_words = self.discovery_words;
@@ -117,15 +104,15 @@ impl Routing {
             self.discoveries,
             place,
         );
-        DiscoveryAtOutcome::Answered(answer)
+        Ok(answer)
     }
 
     // The table check: sound, or the first fault in ascending order of destination.
-    pub fn check(self) -> CheckOutcome
+    pub fn check(self) -> Result<Checked, Refusal>
         ensures { result ≡ check_tables self }
     {
         if !self.well_formed() {
-            return CheckOutcome::Refused(Refusal::StateIllFormed);
+            return Err(Refusal::StateIllFormed);
         }
         let route_keys = self.route_keys;
         let route_words = self.route_words;
@@ -143,11 +130,11 @@ impl Routing {
             &discovery_ends,
             self.discoveries,
         );
-        CheckOutcome::Answered(answer)
+        Ok(answer)
     }
 
     // The hop that the Active route to a destination names, on a state that is well formed.
-    pub fn active_hop(self, destination: Nwk) -> HopAnswer
+    pub fn active_hop(self, destination: Nwk) -> Result<Option<Nwk>, Refusal>
         requires { WellFormed self }
         ensures { result ≡ hop_answer (hop_at destination.0 (routes_in self)) }
     {
@@ -164,13 +151,13 @@ impl Routing {
     }
 
     // The next hop to a destination by its Active route. A hop that is not known is refusal 6.
-    pub fn next_hop(self, destination: Nwk) -> HopOutcome
+    pub fn next_hop(self, destination: Nwk) -> Result<Option<Nwk>, Refusal>
         ensures { result ≡ next_hop_of self destination }
     {
         if !self.well_formed() {
-            return HopOutcome::Refused(Refusal::StateIllFormed);
+            return Err(Refusal::StateIllFormed);
         }
-        hop_outcome(self.active_hop(destination))
+        self.active_hop(destination)
     }
 
     // A route failure was heard: whether the signals reach the threshold.
@@ -180,11 +167,11 @@ impl Routing {
         if !self.well_formed() {
             return self.refuse_told(Refusal::StateIllFormed);
         }
-        let count = types::saturating_add_u8(self.mtorr_route_errors, 1);
+        let count = self.mtorr_route_errors.saturating_add(1);
         let mut state = self;
         state.mtorr_route_errors = count;
         ToldOutcome {
-            answer: ToldAnswer::Told(threshold <= count),
+            answer: Ok(threshold <= count),
             state,
         }
     }
@@ -196,11 +183,11 @@ impl Routing {
         if !self.well_formed() {
             return self.refuse_told(Refusal::StateIllFormed);
         }
-        let count = types::saturating_add_u8(self.mtorr_delivery_failures, 1);
+        let count = self.mtorr_delivery_failures.saturating_add(1);
         let mut state = self;
         state.mtorr_delivery_failures = count;
         ToldOutcome {
-            answer: ToldAnswer::Told(threshold <= count),
+            answer: Ok(threshold <= count),
             state,
         }
     }
@@ -216,7 +203,7 @@ impl Routing {
         state.mtorr_route_errors = 0;
         state.mtorr_delivery_failures = 0;
         DoneOutcome {
-            answer: RouteAnswer::Done,
+            answer: Ok(()),
             state,
         }
     }

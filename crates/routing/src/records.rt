@@ -3,26 +3,20 @@ ghost use Rattle.std.specs.Prelude.{◌≡◌};
 ghost use Rattle.relay_store.specs.Store.{agrees, Agrees};
 ghost use Rattle.route_table.specs.Table as route;
 ghost use Rattle.routing.specs.State.{WellFormed, record_table};
-ghost use Rattle.routing.specs.Records.{refused_record, refused_way, store_route_record, store_after_record, remove_route_record, store_after_removal, hop_to, answer_in, answer_by, route_to_core, route_to, route_to_default, record_count, record_here, refused_record_at, record_at};
+ghost use Rattle.routing.specs.Records.{refused_record, refused_way, store_route_record, store_after_record, remove_route_record, store_after_removal, hop_to, answer_in, answer_by, route_to_core, route_to, route_to_default, record_count, refused_record_at, record_at};
 
-use crate::{
-    CountOutcome, RecordAtAnswer, RecordAtOutcome, RecordOutcome, RouteToAnswer, RouteToOutcome,
-    Routing, ToldAnswer, ToldOutcome,
-};
-use record_table::RecordLookup;
-use route_calls::HopAnswer;
-use route_record::RecordAnswer;
-use standard::{RecordRoute, RelayList};
+use crate::{RecordAtOutcome, RecordOutcome, RouteToAnswer, RouteToOutcome, Routing, ToldOutcome};
+use standard::{RecordEntry, RecordRoute, RelayList};
 use types::{Nwk, Refusal};
 
 // The hop that the route table names, as the way: one that is not known is refusal 6.
-fn hop_to(hop: HopAnswer) -> RouteToAnswer
+fn hop_to(hop: Result<Option<Nwk>, Refusal>) -> Result<RouteToAnswer, Refusal>
     ensures { result ≡ hop_to hop }
 {
     match hop {
-        HopAnswer::NoRoute => RouteToAnswer::NoRoute,
-        HopAnswer::Hop(n) => RouteToAnswer::NextHop(n),
-        HopAnswer::Unknown => RouteToAnswer::Refused(Refusal::UnknownNextHop),
+        Ok(None) => Ok(RouteToAnswer::NoRoute),
+        Ok(Some(n)) => Ok(RouteToAnswer::NextHop(n)),
+        Err(why) => Err(why),
     }
 }
 
@@ -32,18 +26,8 @@ fn refuse_way(refusal: Refusal) -> RouteToOutcome
 {
     let relays = relay_store::no_relays();
     RouteToOutcome {
-        answer: RouteToAnswer::Refused(refusal),
+        answer: Err(refusal),
         relays,
-    }
-}
-
-// What stands at a place, as an answer.
-fn record_here(entry: RecordLookup) -> RecordAtAnswer
-    ensures { result ≡ record_here entry }
-{
-    match entry {
-        RecordLookup::Found(e) => RecordAtAnswer::Found(e),
-        RecordLookup::Missing => RecordAtAnswer::Missing,
     }
 }
 
@@ -53,7 +37,7 @@ fn refuse_record_at(refusal: Refusal) -> RecordAtOutcome
 {
     let relays = relay_store::no_relays();
     RecordAtOutcome {
-        answer: RecordAtAnswer::Refused(refusal),
+        answer: Err(refusal),
         relays,
     }
 }
@@ -65,15 +49,15 @@ fn answer_on(
     route_usage: &[u32],
     routes: usize,
     destination: Nwk,
-    way: RecordRoute,
-) -> RouteToAnswer
+    way: Option<RecordRoute>,
+) -> Result<RouteToAnswer, Refusal>
     requires { route.WellFormed (route.in_columns route_keys.now route_words.now route_usage.now routes) }
     ensures { result ≡ answer_in (route.rows_of (route.in_columns route_keys.now route_words.now route_usage.now routes)) destination way }
 {
     match way {
-        RecordRoute::Direct => RouteToAnswer::NextHop(destination),
-        RecordRoute::SourceRoute => RouteToAnswer::SourceRoute,
-        RecordRoute::None => {
+        Some(RecordRoute::Direct) => Ok(RouteToAnswer::NextHop(destination)),
+        Some(RecordRoute::SourceRoute) => Ok(RouteToAnswer::SourceRoute),
+        None => {
             let hop = route_calls::next_hop(
                 route_keys,
                 route_words,
@@ -101,7 +85,7 @@ impl Routing {
         ensures { result ≡ refused_record self refusal }
     {
         RecordOutcome {
-            answer: RecordAnswer::Refused(refusal),
+            answer: Err(refusal),
             state: self,
         }
     }
@@ -200,20 +184,20 @@ impl Routing {
         state.record_lengths = record_lengths;
         state.records = x.records;
         ToldOutcome {
-            answer: ToldAnswer::Told(x.removed),
+            answer: Ok(x.removed),
             state,
         }
     }
 
     // What a record's word on the way comes to: where it names none, the Active route decides.
-    fn answer_by(self, destination: Nwk, way: RecordRoute) -> RouteToAnswer
+    fn answer_by(self, destination: Nwk, way: Option<RecordRoute>) -> Result<RouteToAnswer, Refusal>
         requires { WellFormed self }
         ensures { result ≡ answer_by self destination way }
     {
         match way {
-            RecordRoute::Direct => RouteToAnswer::NextHop(destination),
-            RecordRoute::SourceRoute => RouteToAnswer::SourceRoute,
-            RecordRoute::None => {
+            Some(RecordRoute::Direct) => Ok(RouteToAnswer::NextHop(destination)),
+            Some(RecordRoute::SourceRoute) => Ok(RouteToAnswer::SourceRoute),
+            None => {
                 let hop = self.active_hop(destination);
                 hop_to(hop)
             }
@@ -305,13 +289,13 @@ impl Routing {
     }
 
     // How many route records there are.
-    pub fn record_count(self) -> CountOutcome
+    pub fn record_count(self) -> Result<usize, Refusal>
         ensures { result ≡ record_count self }
     {
         if !self.well_formed() {
-            return CountOutcome::Refused(Refusal::StateIllFormed);
+            return Err(Refusal::StateIllFormed);
         }
-        CountOutcome::Answered(self.records)
+        Ok(self.records)
     }
 
     // The route record at a place in ascending order with its relays, and nothing from the count on.
@@ -333,9 +317,9 @@ impl Routing {
             store,
             place,
         );
-        let entry = row.entry;
-        let relays = row.relays;
-        let answer = record_here(entry);
-        RecordAtOutcome { answer, relays }
+        RecordAtOutcome {
+            answer: Ok(row.entry),
+            relays: row.relays,
+        }
     }
 }

@@ -2,8 +2,7 @@
 ghost use Rattle.std.specs.Prelude.{◌≡◌};
 ghost use Rattle.routing.specs.Routes.{refused_done, refused_told, mark_discovery_failed, record_usage, note_source_routed_frame, decay_activity, invalidate_via, restore_route, note_relayed_discovery, remove_route};
 
-use crate::{DoneOutcome, Routing, ToldAnswer, ToldOutcome};
-use route_calls::RouteAnswer;
+use crate::{DoneOutcome, Routing, ToldOutcome};
 use types::{Nwk, Refusal};
 
 impl Routing {
@@ -12,7 +11,7 @@ impl Routing {
         ensures { result ≡ refused_done self }
     {
         DoneOutcome {
-            answer: RouteAnswer::Refused(Refusal::StateIllFormed),
+            answer: Err(Refusal::StateIllFormed),
             state: self,
         }
     }
@@ -22,7 +21,7 @@ impl Routing {
         ensures { result ≡ refused_told self refusal }
     {
         ToldOutcome {
-            answer: ToldAnswer::Refused(refusal),
+            answer: Err(refusal),
             state: self,
         }
     }
@@ -48,7 +47,7 @@ impl Routing {
         state.route_words = route_words;
         state.route_usage = route_usage;
         DoneOutcome {
-            answer: RouteAnswer::Done,
+            answer: Ok(()),
             state,
         }
     }
@@ -74,7 +73,7 @@ impl Routing {
         state.route_words = route_words;
         state.route_usage = route_usage;
         DoneOutcome {
-            answer: RouteAnswer::Done,
+            answer: Ok(()),
             state,
         }
     }
@@ -100,7 +99,7 @@ impl Routing {
         state.route_words = route_words;
         state.route_usage = route_usage;
         DoneOutcome {
-            answer: RouteAnswer::Done,
+            answer: Ok(()),
             state,
         }
     }
@@ -119,7 +118,7 @@ impl Routing {
         let mut state = self;
         state.route_words = route_words;
         DoneOutcome {
-            answer: RouteAnswer::Done,
+            answer: Ok(()),
             state,
         }
     }
@@ -144,7 +143,7 @@ impl Routing {
         let mut state = self;
         state.route_words = route_words;
         DoneOutcome {
-            answer: RouteAnswer::Done,
+            answer: Ok(()),
             state,
         }
     }
@@ -226,7 +225,7 @@ impl Routing {
         state.route_usage = route_usage;
         state.routes = x.routes;
         ToldOutcome {
-            answer: ToldAnswer::Told(x.removed),
+            answer: Ok(x.removed),
             state,
         }
     }

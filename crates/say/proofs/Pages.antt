@@ -1,7 +1,7 @@
 -- Bytes put in parts are the bytes put at once; one turn of each loop; and a number's digits one by one.
 -- Inductions over the bytes, and the cases of the definitions.
 -- Assumes nothing.
-use Prim.Native.Nat.{ℕ, zero, suc, ◌+◌, ◌-◌, ◌/◌, ◌%◌, ◌<◌, ◌≤◌}
+use Prim.Native.Nat.{ℕ, zero, suc, ◌+◌, ◌-◌, ◌/◌, ◌%◌, ◌<◌, ◌≤◌, min}
 use mathlib.Core.List.{List, [], ◌∷◌, ◌++◌}
 use mathlib.Core.Path.{◌≡◌, refl, sym, ap, ◌∙◌}
 use lib.ListN.{length, take, drop, get_or, set, drop_of_length-le, length-take}
@@ -64,13 +64,9 @@ number_put p n = refl
 
 -- the numbers from one place to another
 module _ (p : Page) (xs : List ℕ) (i end : ℕ) where
-  pub numbers-end : end ≤ i → puts p (spaced (drop i (take end xs))) ≡ p
+  pub numbers-end : min end (length xs) ≤ i → puts p (spaced (drop i (take end xs))) ≡ p
   unfolding spaced puts
   numbers-end h = rw (drop_of_length-le (take end xs) {i = i} (omega (arith, length-take end xs)))
-
-  pub numbers-out : length xs ≤ i → puts p (spaced (drop i (take end xs))) ≡ p
-  unfolding spaced puts
-  numbers-out h = rw (drop_of_length-le (take end xs) {i = i} (omega (arith, length-take end xs)))
 
   pub numbers-next : i < end → i < length xs → puts (puts p (32 ∷ decimal (get_or xs i 0))) (spaced (drop (i + 1) (take end xs))) ≡ puts p (spaced (drop i (take end xs)))
   unfolding spaced

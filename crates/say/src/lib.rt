@@ -23,10 +23,8 @@ fn put_all(out: &mut [u8], at: usize, bytes: &[u8]) -> usize
     ensures { page out.new result ≡ puts (page out.old at) bytes.now }
 {
     let mut to = at;
-    let mut i: usize = 0;
-    while i < bytes.len() {
-        to = put(out, to, bytes[i]);
-        i += 1;
+    for b in bytes {
+        to = put(out, to, *b);
     }
     to
 }
@@ -66,13 +64,8 @@ fn put_numbers(out: &mut [u8], at: usize, xs: &[u64], from: usize, end: usize) -
     ensures { page out.new result ≡ puts (page out.old at) (spaced (drop from (take end xs.now))) }
 {
     let mut to = at;
-    let mut i = from;
-    while i < end {
-        if xs.len() <= i {
-            return to;
-        }
+    for i in from..end.min(xs.len()) {
         to = put_number(out, to, xs[i]);
-        i += 1;
     }
     to
 }

@@ -206,10 +206,8 @@ pub fn feed(s: Scan, bytes: &[u8]) -> Scan
     ensures { result ≡ fed s bytes.now }
 {
     let mut t = s;
-    let mut i: usize = 0;
-    while i < bytes.len() {
-        t = step(t, bytes[i]);
-        i += 1;
+    for b in bytes {
+        t = step(t, *b);
     }
     t
 }
@@ -232,12 +230,10 @@ pub fn line_of(s: Scan) -> Line
 pub fn line_end(bytes: &[u8], from: usize) -> usize
     ensures { result ≡ from + until_feed (drop from bytes.now) }
 {
-    let mut i = from;
-    while i < bytes.len() {
+    for i in from..bytes.len() {
         if bytes[i] == 10 {
             return i;
         }
-        i += 1;
     }
-    i
+    from.max(bytes.len())
 }

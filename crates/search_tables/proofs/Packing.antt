@@ -1,8 +1,8 @@
 -- Well-formed tables are their rows, packed; rows that fit, packed, are well-formed tables whose rows they are.
 -- Both are the laws of the two tables, side by side.
+use Rattle.std.specs.Prelude.{Option, Some, None, unwrap_or}
 use Prim.Native.Nat.{ℕ}
 use mathlib.Core.Bool.{Bool, true, false, cond}
-use mathlib.Core.Option.{Option, none, some, get_or}
 use mathlib.Core.Path.{◌≡◌, refl, ap, ◌∙◌}
 use Rattle.types.specs.declared.Nwk.{Nwk}
 use Rattle.standard.specs.declared.RouteEntry.{RouteEntry}
@@ -38,9 +38,9 @@ packed-rows t f = λ z. record { routes = routes.table-rows t.routes f.routes z;
 -- the route to d, made or found, stands under d
 pub route-or-key : (d : Nwk) (t : Tables) → route_key (route_or d t.routes) ≡ d.0
 route-or-key d t = go (lookup route_key d.0 t.routes) refl where
-  go : (o : Option RouteEntry) → lookup route_key d.0 t.routes ≡ o → route_key (get_or o (new_route d Inactive unknown_hop)) ≡ d.0
-  go none e = refl
-  go (some x) e = lookup_key route_key d.0 t.routes x e
+  go : (o : Option RouteEntry) → lookup route_key d.0 t.routes ≡ o → route_key (unwrap_or o (new_route d Inactive unknown_hop)) ≡ d.0
+  go None e = refl
+  go (Some x) e = lookup_key route_key d.0 t.routes x e
 
 -- what a candidate, a status and a many-to-one field change is not the destination
 pub considered-key : (hop : Nwk) (cost : ℕ) (e : RouteEntry) → route_key (considered hop cost e) ≡ route_key e

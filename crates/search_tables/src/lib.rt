@@ -6,7 +6,6 @@ ghost use Rattle.flat_map.specs.Seek.{place_of};
 ghost use Rattle.route_table.specs.Table.{in_columns, WellFormed, rows_of};
 ghost use Rattle.standard.specs.Route.{route_or};
 
-use flat_map::Place;
 use standard::{RouteEntry, Status};
 use types::Nwk;
 
@@ -16,14 +15,14 @@ pub fn route_or(
     words: &[u64],
     usage: &[u32],
     count: usize,
-    place: Place,
+    place: Result<usize, usize>,
     destination: Nwk,
 ) -> RouteEntry
     requires { WellFormed (in_columns keys.now words.now usage.now count) × (place ≡ place_of (take count keys.now) destination.0) }
     ensures { result ≡ route_or destination (rows_of (in_columns keys.now words.now usage.now count)) }
 {
     match place {
-        Place::Found(i) => route_table::entry_at(keys, words, usage, i),
-        Place::Missing(_) => { route_entry::new_route(destination, Status::Inactive, Nwk(0xFFFF)) }
+        Ok(i) => route_table::entry_at(keys, words, usage, i),
+        Err(_) => { route_entry::new_route(destination, Status::Inactive, Nwk(0xFFFF)) }
     }
 }

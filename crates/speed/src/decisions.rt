@@ -12,16 +12,13 @@ ghost use Rattle.next_hop.specs.Decision.{names_long};
 ghost use Rattle.next_hop.specs.Lent.{OfTable};
 
 use children::ChildDescriptor;
-use frame::{
-    NwkFrameControl, NwkFrameType, NwkHeader, NwkRouteDiscovery, NwkSourceRoute, OptionalByte,
-    OptionalEui64,
-};
+use frame::{NwkFrameControl, NwkFrameType, NwkHeader, NwkRouteDiscovery, NwkSourceRoute};
 use hop_choice::{Policy, RouteDirective, SendKind};
 use neighbor_table::{NwkDeviceType, Relationship};
 use neighbors::{Neighbors, Outcome};
 use next_hop::{NextHop, ResolveOutcome, SendMode};
 use routing::Routing;
-use types::{Eui64, Nwk};
+use types::{Eui64, Nwk, Refusal};
 
 fn with_child(state: Neighbors, address: u16) -> Outcome {
     let child = ChildDescriptor {
@@ -39,11 +36,9 @@ fn with_child(state: Neighbors, address: u16) -> Outcome {
 pub fn filled_neighbors(size: u16) -> Neighbors {
     let mut s = speed_links::filled_links(size);
     let half = size / 2;
-    let mut i: u16 = 0;
-    while i < half {
+    for i in 0..half {
         let o = with_child(s, i * 2 + 1);
         s = o.state;
-        i += 1;
     }
     s
 }
@@ -77,9 +72,9 @@ fn header(row: &[u64]) -> NwkHeader {
         source: numbers::nwk(row, 1),
         radius: 30,
         sequence_number: 0,
-        destination_ieee: OptionalEui64::Absent,
-        source_ieee: OptionalEui64::Absent,
-        multicast_control: OptionalByte::Absent,
+        destination_ieee: None,
+        source_ieee: None,
+        multicast_control: None,
         has_source_route: false,
         source_route,
     }
@@ -105,12 +100,12 @@ fn policy() -> Policy {
     }
 }
 
-fn hop_weight(answer: NextHop) -> u64 {
+fn hop_weight(answer: Result<NextHop, Refusal>) -> u64 {
     match answer {
-        NextHop::Refused(_) => 7,
-        NextHop::Resolved(hop) => hop.0 as u64,
-        NextHop::NeedDiscovery => 1,
-        NextHop::Discard => 2,
+        Err(_) => 7,
+        Ok(NextHop::Resolved(hop)) => hop.0 as u64,
+        Ok(NextHop::NeedDiscovery) => 1,
+        Ok(NextHop::Discard) => 2,
     }
 }
 
@@ -130,13 +125,9 @@ fn decision(routing: Routing, neighbors: Neighbors, store: &[u16], row: &[u64]) 
 
 pub fn decisions(routing: Routing, neighbors: Neighbors, store: &[u16], inputs: &[u64]) -> u64 {
     let mut sum: u64 = 0;
-    let n = inputs.len() / 8;
-    let mut k: usize = 0;
-    while k < n {
-        let i = k * 8;
-        let x = decision(routing, neighbors, store, &inputs[i..i + 8]);
+    for row in inputs.chunks_exact(8) {
+        let x = decision(routing, neighbors, store, row);
         sum = std::num::wrapping_add_u64(sum, x);
-        k += 1;
     }
     sum
 }
@@ -188,10 +179,7 @@ fn decisions_held(routing: Routing, neighbors: Neighbors, store: &[u16], inputs:
     let nwks = neighbors.nwks;
     let links = neighbors.links;
     let mut sum: u64 = 0;
-    let n = inputs.len() / 8;
-    let mut k: usize = 0;
-    while k < n {
-        let i = k * 8;
+    for row in inputs.chunks_exact(8) {
         let x = decision_lent(
             &route_keys,
             &route_words,
@@ -204,10 +192,9 @@ fn decisions_held(routing: Routing, neighbors: Neighbors, store: &[u16], inputs:
             &nwks,
             &links,
             neighbors.count,
-            &inputs[i..i + 8],
+            row,
         );
         sum = std::num::wrapping_add_u64(sum, x);
-        k += 1;
     }
     sum
 }

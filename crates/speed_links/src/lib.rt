@@ -11,9 +11,9 @@ ghost use Rattle.speed_links.specs.Command.{link_to, eight_links};
 use link_status::LinkStatusCommand;
 use link_status_lent::Digested;
 use neighbor_calls::NwkOutcome;
-use neighbor_queries::{LinkStatus, NwkAnswer};
+use neighbor_queries::LinkStatus;
 use neighbors::Neighbors;
-use types::Nwk;
+use types::{Nwk, Refusal};
 
 fn status(n: u8) -> LinkStatus
     ensures { result ≡ link_to n }
@@ -47,11 +47,11 @@ pub fn command() -> LinkStatusCommand
     }
 }
 
-fn link_weight(a: NwkAnswer) -> u64 {
+fn link_weight(a: Result<Option<Nwk>, Refusal>) -> u64 {
     match a {
-        NwkAnswer::Refused(_) => 7,
-        NwkAnswer::Nothing => 1,
-        NwkAnswer::Is(n) => n.0 as u64,
+        Err(_) => 7,
+        Ok(None) => 1,
+        Ok(Some(n)) => n.0 as u64,
     }
 }
 
@@ -72,9 +72,7 @@ fn link(state: Neighbors, command: LinkStatusCommand, row: &[u64]) -> NwkOutcome
 pub fn filled_links(size: u16) -> Neighbors {
     let c = command();
     let mut s = Neighbors::new();
-    let mut i: u16 = 0;
-    while i < size {
-        i += 1;
+    for i in 1..=size {
         let row = [1u64, i as u64, i as u64, 200, 0];
         let x = link(s, c, &row);
         s = x.state;
@@ -86,15 +84,11 @@ pub fn links(state: Neighbors, inputs: &[u64]) -> u64 {
     let c = command();
     let mut s = state;
     let mut sum: u64 = 0;
-    let n = inputs.len() / 8;
-    let mut k: usize = 0;
-    while k < n {
-        let i = k * 8;
-        let x = link(s, c, &inputs[i..i + 8]);
+    for row in inputs.chunks_exact(8) {
+        let x = link(s, c, row);
         s = x.state;
         let answer = x.answer;
         sum = std::num::wrapping_add_u64(sum, link_weight(answer));
-        k += 1;
     }
     sum
 }
@@ -166,10 +160,7 @@ fn links_held(state: Neighbors, inputs: &[u64]) -> u64
     let mut waiting = state.waiting;
     let c = command();
     let mut sum: u64 = 0;
-    let n = inputs.len() / 8;
-    let mut k: usize = 0;
-    while k < n {
-        let i = k * 8;
+    for row in inputs.chunks_exact(8) {
         let x = link_lent(
             &mut keys,
             &mut nwks,
@@ -186,13 +177,12 @@ fn links_held(state: Neighbors, inputs: &[u64]) -> u64
             &mut samples,
             waiting,
             c,
-            &inputs[i..i + 8],
+            row,
         );
         let answer = x.answer;
         count = x.neighbors;
         waiting = x.waiting;
         sum = std::num::wrapping_add_u64(sum, link_weight(answer));
-        k += 1;
     }
     sum
 }

@@ -8,11 +8,11 @@ ghost use Rattle.relay_store.specs.Store.{Agrees};
 ghost use Rattle.relay_store.specs.Packed.{Together};
 ghost use Rattle.routing.specs.State.{WellFormed, record_table};
 
-use route_record::{RecordAnswer, Recorded};
+use route_record::Recorded;
 use routing::{RouteToAnswer, RouteToOutcome, Routing};
 use speed_routes::Turn;
 use standard::RelayList;
-use types::Nwk;
+use types::{Nwk, Refusal};
 
 // At most three relays: how many at place 1, the relays after it.
 fn relays_in(row: &[u64]) -> RelayList
@@ -32,19 +32,17 @@ pub fn filled_records(state: Routing, store: &mut [u16], size: u16) -> Routing {
     let first = [0u64, 3, 1, 2, 3];
     let relays = relays_in(&first);
     let mut s = state;
-    let mut i: u16 = 3;
-    while i < size {
-        i += 1;
+    for i in 4..=size {
         let o = s.store_route_record(store, Nwk(i), relays);
         s = o.state;
     }
     s
 }
 
-fn record_weight(a: RecordAnswer) -> u64 {
+fn record_weight(a: Result<bool, Refusal>) -> u64 {
     match a {
-        RecordAnswer::Refused(_) => 7,
-        RecordAnswer::Stored(changed) => changed as u64,
+        Err(_) => 7,
+        Ok(changed) => changed as u64,
     }
 }
 
@@ -52,10 +50,10 @@ fn way_weight(o: RouteToOutcome) -> u64 {
     let answer = o.answer;
     let relays = o.relays;
     match answer {
-        RouteToAnswer::Refused(_) => 7,
-        RouteToAnswer::NoRoute => 1,
-        RouteToAnswer::NextHop(hop) => hop.0 as u64,
-        RouteToAnswer::SourceRoute => {
+        Err(_) => 7,
+        Ok(RouteToAnswer::NoRoute) => 1,
+        Ok(RouteToAnswer::NextHop(hop)) => hop.0 as u64,
+        Ok(RouteToAnswer::SourceRoute) => {
             let a = relays.addresses[0];
             std::num::wrapping_add_u64(relays.count as u64, a.0 as u64)
         }
@@ -75,14 +73,10 @@ fn record(state: Routing, store: &mut [u16], row: &[u64]) -> Turn {
 pub fn records(state: Routing, store: &mut [u16], inputs: &[u64]) -> u64 {
     let mut s = state;
     let mut sum: u64 = 0;
-    let n = inputs.len() / 8;
-    let mut k: usize = 0;
-    while k < n {
-        let i = k * 8;
-        let x = record(s, store, &inputs[i..i + 8]);
+    for row in inputs.chunks_exact(8) {
+        let x = record(s, store, row);
         s = x.state;
         sum = std::num::wrapping_add_u64(sum, x.weight);
-        k += 1;
     }
     sum
 }
@@ -114,15 +108,11 @@ pub fn records_core(state: Routing, store: &mut [u16], inputs: &[u64]) -> u64 {
         return 0;
     }
     let mut sum: u64 = 0;
-    let n = inputs.len() / 8;
-    let mut k: usize = 0;
-    while k < n {
-        let i = k * 8;
-        let x = record_lent(&mut keys, &mut lengths, count, store, &inputs[i..i + 8]);
+    for row in inputs.chunks_exact(8) {
+        let x = record_lent(&mut keys, &mut lengths, count, store, row);
         let answer = x.answer;
         count = x.records;
         sum = std::num::wrapping_add_u64(sum, record_weight(answer));
-        k += 1;
     }
     sum
 }
@@ -135,13 +125,9 @@ fn way(state: Routing, store: &[u16], row: &[u64]) -> u64 {
 
 pub fn ways(state: Routing, store: &[u16], inputs: &[u64]) -> u64 {
     let mut sum: u64 = 0;
-    let n = inputs.len() / 8;
-    let mut k: usize = 0;
-    while k < n {
-        let i = k * 8;
-        let x = way(state, store, &inputs[i..i + 8]);
+    for row in inputs.chunks_exact(8) {
+        let x = way(state, store, row);
         sum = std::num::wrapping_add_u64(sum, x);
-        k += 1;
     }
     sum
 }
@@ -157,13 +143,9 @@ fn ways_held(state: Routing, store: &[u16], inputs: &[u64]) -> u64
     requires { WellFormed state × Agrees (record_table state) store.now }
 {
     let mut sum: u64 = 0;
-    let n = inputs.len() / 8;
-    let mut k: usize = 0;
-    while k < n {
-        let i = k * 8;
-        let x = way_core(state, store, &inputs[i..i + 8]);
+    for row in inputs.chunks_exact(8) {
+        let x = way_core(state, store, row);
         sum = std::num::wrapping_add_u64(sum, x);
-        k += 1;
     }
     sum
 }

@@ -4,12 +4,12 @@
 
 ghost use Rattle.search_tables.specs.Packed.{in_columns, WellFormed};
 
-use route_begin::{BeginAnswer, BeginResult};
-use route_reply::{ReplyAnswer, ReplyResult};
-use route_request::{RequestAnswer, RequestResult};
+use route_begin::BeginResult;
+use route_reply::ReplyResult;
+use route_request::RequestResult;
 use routing::Routing;
-use standard::{ManyToOne, RouteReplyDisposition};
-use types::Nwk;
+use standard::{ManyToOne, RouteReplyDisposition, RouteUpdate};
+use types::{Nwk, Refusal};
 
 // The state after a call, and what its answer adds to the sum.
 #[derive(Drop)]
@@ -26,9 +26,7 @@ pub fn filled(size: u16) -> Routing {
 
 fn with_routes(size: u16) -> Routing {
     let mut s = Routing::new();
-    let mut i: u16 = 0;
-    while i < size {
-        i += 1;
+    for i in 1..=size {
         let o = s.restore_route(Nwk(i), Nwk(2000), 3);
         s = o.state;
     }
@@ -37,8 +35,7 @@ fn with_routes(size: u16) -> Routing {
 
 fn with_searches(state: Routing, count: u16) -> Routing {
     let mut s = state;
-    let mut i: u16 = 1;
-    while i < count {
+    for i in 1..count {
         let o = s.accept_route_request(
             Nwk(i),
             1,
@@ -50,13 +47,12 @@ fn with_searches(state: Routing, count: u16) -> Routing {
             1000000000000,
         );
         s = o.state;
-        i += 1;
     }
     s
 }
 
-fn reply_weight(a: ReplyAnswer) -> u64 {
-    let ReplyAnswer::Answered(d, _) = a else {
+fn reply_weight(a: Result<(RouteReplyDisposition, Option<RouteUpdate>), Refusal>) -> u64 {
+    let Ok((d, _)) = a else {
         return 7;
     };
     match d {
@@ -69,17 +65,17 @@ fn reply_weight(a: ReplyAnswer) -> u64 {
     }
 }
 
-fn request_weight(a: RequestAnswer) -> u64 {
+fn request_weight(a: Result<(bool, Option<RouteUpdate>), Refusal>) -> u64 {
     match a {
-        RequestAnswer::Refused(_) => 7,
-        RequestAnswer::Answered(accepted, _) => accepted as u64,
+        Err(_) => 7,
+        Ok((accepted, _)) => accepted as u64,
     }
 }
 
-fn begin_weight(a: BeginAnswer) -> u64 {
+fn begin_weight(a: Result<u8, Refusal>) -> u64 {
     match a {
-        BeginAnswer::Refused(_) => 7,
-        BeginAnswer::Begun(id) => id as u64,
+        Err(_) => 7,
+        Ok(id) => id as u64,
     }
 }
 
@@ -102,14 +98,10 @@ fn reply(state: Routing, row: &[u64]) -> Turn {
 pub fn replies(state: Routing, inputs: &[u64]) -> u64 {
     let mut s = state;
     let mut sum: u64 = 0;
-    let n = inputs.len() / 8;
-    let mut k: usize = 0;
-    while k < n {
-        let i = k * 8;
-        let x = reply(s, &inputs[i..i + 8]);
+    for row in inputs.chunks_exact(8) {
+        let x = reply(s, row);
         s = x.state;
         sum = std::num::wrapping_add_u64(sum, x.weight);
-        k += 1;
     }
     sum
 }
@@ -169,10 +161,7 @@ pub fn replies_core(state: Routing, inputs: &[u64]) -> u64 {
         return 0;
     }
     let mut sum: u64 = 0;
-    let n = inputs.len() / 8;
-    let mut k: usize = 0;
-    while k < n {
-        let i = k * 8;
+    for row in inputs.chunks_exact(8) {
         let x = reply_lent(
             &mut route_keys,
             &mut route_words,
@@ -182,12 +171,11 @@ pub fn replies_core(state: Routing, inputs: &[u64]) -> u64 {
             &mut discovery_words,
             &mut discovery_ends,
             discoveries,
-            &inputs[i..i + 8],
+            row,
         );
         let answer = x.answer;
         routes = x.routes;
         sum = std::num::wrapping_add_u64(sum, reply_weight(answer));
-        k += 1;
     }
     sum
 }
@@ -213,14 +201,10 @@ fn request(state: Routing, row: &[u64]) -> Turn {
 pub fn requests(state: Routing, inputs: &[u64]) -> u64 {
     let mut s = state;
     let mut sum: u64 = 0;
-    let n = inputs.len() / 8;
-    let mut k: usize = 0;
-    while k < n {
-        let i = k * 8;
-        let x = request(s, &inputs[i..i + 8]);
+    for row in inputs.chunks_exact(8) {
+        let x = request(s, row);
         s = x.state;
         sum = std::num::wrapping_add_u64(sum, x.weight);
-        k += 1;
     }
     sum
 }
@@ -282,10 +266,7 @@ pub fn requests_core(state: Routing, inputs: &[u64]) -> u64 {
         return 0;
     }
     let mut sum: u64 = 0;
-    let n = inputs.len() / 8;
-    let mut k: usize = 0;
-    while k < n {
-        let i = k * 8;
+    for row in inputs.chunks_exact(8) {
         let x = request_lent(
             &mut route_keys,
             &mut route_words,
@@ -295,13 +276,12 @@ pub fn requests_core(state: Routing, inputs: &[u64]) -> u64 {
             &mut discovery_words,
             &mut discovery_ends,
             discoveries,
-            &inputs[i..i + 8],
+            row,
         );
         let answer = x.answer;
         routes = x.routes;
         discoveries = x.discoveries;
         sum = std::num::wrapping_add_u64(sum, request_weight(answer));
-        k += 1;
     }
     sum
 }
@@ -323,14 +303,10 @@ fn begin(state: Routing, row: &[u64]) -> Turn {
 pub fn begins(state: Routing, inputs: &[u64]) -> u64 {
     let mut s = state;
     let mut sum: u64 = 0;
-    let n = inputs.len() / 8;
-    let mut k: usize = 0;
-    while k < n {
-        let i = k * 8;
-        let x = begin(s, &inputs[i..i + 8]);
+    for row in inputs.chunks_exact(8) {
+        let x = begin(s, row);
         s = x.state;
         sum = std::num::wrapping_add_u64(sum, x.weight);
-        k += 1;
     }
     sum
 }
@@ -369,10 +345,10 @@ fn begin_lent(
 }
 
 // The last request id after a search was begun or refused.
-fn begun(a: BeginAnswer, last: u8) -> u8 {
+fn begun(a: Result<u8, Refusal>, last: u8) -> u8 {
     match a {
-        BeginAnswer::Refused(_) => last,
-        BeginAnswer::Begun(id) => id,
+        Err(_) => last,
+        Ok(id) => id,
     }
 }
 
@@ -399,10 +375,7 @@ pub fn begins_core(state: Routing, inputs: &[u64]) -> u64 {
         return 0;
     }
     let mut sum: u64 = 0;
-    let n = inputs.len() / 8;
-    let mut k: usize = 0;
-    while k < n {
-        let i = k * 8;
+    for row in inputs.chunks_exact(8) {
         let id = types::next_id(last);
         let x = begin_lent(
             &mut route_keys,
@@ -414,14 +387,13 @@ pub fn begins_core(state: Routing, inputs: &[u64]) -> u64 {
             &mut discovery_ends,
             discoveries,
             id,
-            &inputs[i..i + 8],
+            row,
         );
         let answer = x.answer;
         last = begun(answer, last);
         routes = x.routes;
         discoveries = x.discoveries;
         sum = std::num::wrapping_add_u64(sum, begin_weight(answer));
-        k += 1;
     }
     sum
 }

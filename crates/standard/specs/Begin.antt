@@ -1,8 +1,7 @@
 -- A search of our own and a many-to-one advertisement, on tables whose expiry is done.
 -- Document 01, "Route rules", "Begin discovery"; 05-3474 section 3.6.4.5.1 (initiation of route discovery).
 -- Assumes nothing.
-use Rattle.std.specs.Prelude.{ℕ, List}
-use Rattle.std.proofs.Math.Option.{Option, none, some}
+use Rattle.std.specs.Prelude.{ℕ, List, Option, Some, None}
 use Rattle.types.specs.declared.Nwk.{Nwk}
 use Rattle.standard.specs.declared.DiscoveryEntry.{DiscoveryEntry}
 use Rattle.standard.specs.declared.Status.TheVariants.{DiscoveryUnderway}
@@ -18,8 +17,8 @@ own_discovery own id expires destination = new_discovery own id unknown_hop 0 ex
 
 -- "A live entry under own address and that id is kept as it is."
 abbrev pub kept_or : Option DiscoveryEntry → DiscoveryEntry → List DiscoveryEntry → List DiscoveryEntry
-kept_or none e ds = put discovery_key e ds
-kept_or (some d) e ds = ds
+kept_or None e ds = put discovery_key e ds
+kept_or (Some d) e ds = ds
 
 -- "the route becomes DiscoveryUnderway, made with hop 0xFFFF and cost 255 if absent"
 unfoldable pub begin : Nwk → ℕ → Nwk → ℕ → Tables → Tables

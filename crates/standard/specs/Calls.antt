@@ -1,8 +1,7 @@
 -- The calls that look at the routes alone, and the check of the tables: each as what it makes of the rows.
 -- Document 01, "Route rules", "Refusal numbers" (1 and 6) and "Modules, leaves first" (the check).
 -- Assumes nothing.
-use Rattle.std.specs.Prelude.{ℕ, Bool, false, cond, not, ◌&&◌, ◌||◌, List, eqb}
-use Rattle.std.proofs.Math.Option.{Option, none, some, map}
+use Rattle.std.specs.Prelude.{ℕ, Bool, false, cond, not, ◌&&◌, ◌||◌, List, eqb, Option, Some, None, option_map}
 use Rattle.types.specs.declared.Nwk.{Nwk}
 use Rattle.standard.specs.declared.Status.{Status}
 use Rattle.standard.specs.declared.Status.TheVariants.{Active, DiscoveryUnderway}
@@ -51,12 +50,12 @@ note_relayed d xs = put route_key (sought (route_or d xs)) xs
 
 -- how the route under k stands
 unfoldable pub status_at : ℕ → List RouteEntry → Option Status
-status_at k xs = map (λ (e : RouteEntry). e.status) (lookup route_key k xs)
+status_at k xs = option_map (λ (e : RouteEntry). e.status) (lookup route_key k xs)
 
 -- the hop of a route that is Active
 abbrev pub active_hop : Option RouteEntry → Option Nwk
-active_hop none = none
-active_hop (some e) = cond (is_active e.status) (some e.next_hop_address) none
+active_hop None = None
+active_hop (Some e) = cond (is_active e.status) (Some e.next_hop_address) None
 
 -- the hop of the Active route under k
 unfoldable pub hop_at : ℕ → List RouteEntry → Option Nwk

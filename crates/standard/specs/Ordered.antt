@@ -1,8 +1,7 @@
 -- A table as mathematics: its rows, in strictly ascending order of their keys.
 -- Document 01: "map with unique keys in ascending order"; look-up, insert and remove "have their usual map meaning".
 -- Assumes nothing.
-use Rattle.std.specs.Prelude.{ℕ, suc, ◌<◌, Bool, cond, List, [], ◌∷◌, map, ltb, eqb, length}
-use Rattle.std.proofs.Math.Option.{Option, none, some}
+use Rattle.std.specs.Prelude.{ℕ, suc, ◌<◌, Bool, cond, List, [], ◌∷◌, map, ltb, eqb, length, Option, Some, None}
 
 -- k is below the first key
 abbrev pub Before : ℕ → List ℕ → Type 0
@@ -20,8 +19,8 @@ module _ {E : Type 0} (key_of : E → ℕ) where
 
   -- the row under the key k
   unfoldable pub lookup : ℕ → List E → Option E
-  lookup k [] = none
-  lookup k (x ∷ xs) = cond (eqb (key_of x) k) (some x) (lookup k xs)
+  lookup k [] = None
+  lookup k (x ∷ xs) = cond (eqb (key_of x) k) (Some x) (lookup k xs)
 
   -- the row e, over the one of its key or else at its place in the order
   unfoldable pub put : E → List E → List E

@@ -1,13 +1,12 @@
 -- Questions to rows, and a change of the first that fits: what the Rust writes as find, any, filter and count.
 -- Assumes nothing.
-use Rattle.std.specs.Prelude.{ℕ, zero, suc, Bool, true, false, cond, ◌||◌, List, [], ◌∷◌}
-use Rattle.std.proofs.Math.Option.{Option, none, some}
+use Rattle.std.specs.Prelude.{ℕ, zero, suc, Bool, true, false, cond, ◌||◌, List, [], ◌∷◌, Option, Some, None}
 
 module _ {E : Type 0} (fits : E → Bool) where
   -- the first row that fits
   unfoldable pub first : List E → Option E
-  first [] = none
-  first (x ∷ xs) = cond (fits x) (some x) (first xs)
+  first [] = None
+  first (x ∷ xs) = cond (fits x) (Some x) (first xs)
 
   -- whether one fits
   unfoldable pub some_fits : List E → Bool
@@ -26,11 +25,11 @@ module _ {E : Type 0} (fits : E → Bool) where
 
 -- whether a row was found
 abbrev pub is_there : {E : Type 0} → Option E → Bool
-is_there none = false
-is_there (some x) = true
+is_there None = false
+is_there (Some x) = true
 
 -- "a count and the entry at a place, nothing from the count on": document 01, "Shapes that must change"
 unfoldable pub entry_at : {E : Type 0} → ℕ → List E → Option E
-entry_at i [] = none
-entry_at zero (x ∷ xs) = some x
+entry_at i [] = None
+entry_at zero (x ∷ xs) = Some x
 entry_at (suc i) (x ∷ xs) = entry_at i xs

@@ -1,11 +1,10 @@
 -- Route records as mathematics: an ordered map from an address to the relays of the way to it, the one next to that address first.
 -- Document 01, "Route rules", "Route record" and "Route to D"; 05-3474 sections 3.6.4.5.5 (route record) and 3.6.4.3.1 (source routes).
 -- Assumes nothing.
-use Rattle.std.specs.Prelude.{ℕ, ◌≤◌, Bool, true, false, cond, not, ◌&&◌, List, [], ◌∷◌, eqb, ltb, length}
-use Rattle.std.proofs.Math.Option.{Option, none, some}
+use Rattle.std.specs.Prelude.{ℕ, ◌≤◌, Bool, true, false, cond, not, ◌&&◌, List, [], ◌∷◌, eqb, ltb, length, Option, Some, None}
 use Rattle.types.specs.declared.Nwk.{Nwk}
 use Rattle.standard.specs.declared.RecordRoute.{RecordRoute}
-use Rattle.standard.specs.declared.RecordRoute.TheVariants.{Direct, SourceRoute, None}
+use Rattle.standard.specs.declared.RecordRoute.TheVariants.{Direct, SourceRoute}
 use Rattle.standard.specs.Ordered.{lookup, put}
 
 pub record RouteRecord : Type 0 where
@@ -40,8 +39,8 @@ same_relays (a ∷ r) (b ∷ s) = eqb a.0 b.0 && same_relays r s
 
 -- there is no record, or it names other relays
 abbrev pub other_relays : List Nwk → Option RouteRecord → Bool
-other_relays relays none = true
-other_relays relays (some x) = not (same_relays x.relays relays)
+other_relays relays None = true
+other_relays relays (Some x) = not (same_relays x.relays relays)
 
 -- "'Changed' compares S's record after the relays are written."
 unfoldable pub record_changed : Nwk → List Nwk → List RouteRecord → Bool
@@ -49,7 +48,7 @@ record_changed source relays xs = other_relays relays (lookup address_key source
 
 -- what a record says of the way, and the relays of a source route
 pub record Way : Type 0 where
-  pub route : RecordRoute
+  pub route : Option RecordRoute
   pub relays : List Nwk
 
 abbrev pub no_way : Way
@@ -57,8 +56,8 @@ no_way = record { route = None; relays = [] }
 
 -- "an empty record is direct; fewer relays than the limit give a source route; else the Active route", which no record names
 abbrev pub way_by : ℕ → Option RouteRecord → Way
-way_by limit none = no_way
-way_by limit (some x) =
+way_by limit None = no_way
+way_by limit (Some x) =
     cond (eqb (length x.relays) 0)
-    (record { route = Direct; relays = [] })
-    (cond (ltb (length x.relays) limit) (record { route = SourceRoute; relays = x.relays }) no_way)
+    (record { route = Some Direct; relays = [] })
+    (cond (ltb (length x.relays) limit) (record { route = Some SourceRoute; relays = x.relays }) no_way)

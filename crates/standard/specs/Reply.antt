@@ -2,28 +2,26 @@
 -- Document 01, "Route rules", "Route reply"; 05-3474 section 3.6.4.5.2 (receipt of a route reply).
 -- The departures of the Rust from the specification are pieces of their own: `reply` makes no expiry, `drop_ours`, `written`; docs/DIFFERENCES.md names them.
 -- Assumes nothing.
-use Rattle.std.specs.Prelude.{ℕ, Bool, cond, ◌&&◌, leb, eqb}
-use Rattle.std.proofs.Math.Option.{Option, none, some}
+use Rattle.std.specs.Prelude.{ℕ, Bool, cond, ◌&&◌, leb, eqb, Option, Some, None}
 use Rattle.types.specs.declared.Nwk.{Nwk}
 use Rattle.standard.specs.declared.RouteEntry.{RouteEntry}
 use Rattle.standard.specs.declared.DiscoveryEntry.{DiscoveryEntry}
-use Rattle.standard.specs.declared.Update.{Update}
-use Rattle.standard.specs.declared.Update.TheVariants.{Same}
 use Rattle.standard.specs.declared.RouteReplyDisposition.{RouteReplyDisposition}
 use Rattle.standard.specs.declared.RouteReplyDisposition.TheVariants.{Drop, Established, Relay}
 use Rattle.standard.specs.Ordered.{lookup, put}
 use Rattle.standard.specs.Route.{route_key, route_or, is_active, via, considered, considering, news}
 use Rattle.standard.specs.Discovery.{pair_key, discovery_key}
 use Rattle.standard.specs.Tables.{Tables}
+use Rattle.standard.specs.declared.RouteUpdate.{RouteUpdate}
 
 pub record Replied : Type 0 where
   pub disposition : RouteReplyDisposition
-  pub update : Update
+  pub update : Option RouteUpdate
   pub tables : Tables
 
 -- "A drop changes nothing."
 abbrev pub dropped : Tables → Replied
-dropped t = record { disposition = Drop; update = Same; tables = t }
+dropped t = record { disposition = Drop; update = None; tables = t }
 
 -- the discovery, the cost left from here to the responder noted
 abbrev pub settled : ℕ → DiscoveryEntry → DiscoveryEntry
@@ -74,9 +72,9 @@ reply_theirs originator sender cost d r t =
 
 -- "No pair or no route to the responder: drop."
 unfoldable pub reply_to : Bool → Nwk → Nwk → ℕ → Tables → Option DiscoveryEntry → Option RouteEntry → Replied
-reply_to ours originator sender cost t none r = dropped t
-reply_to ours originator sender cost t (some d) none = dropped t
-reply_to ours originator sender cost t (some d) (some r) =
+reply_to ours originator sender cost t None r = dropped t
+reply_to ours originator sender cost t (Some d) None = dropped t
+reply_to ours originator sender cost t (Some d) (Some r) =
     cond ours (reply_ours sender cost d r t) (reply_theirs originator sender cost d r t)
 
 -- a reply to the search (originator, id) that names its responder, heard from a sender at a cost, by the node own; "no expiry"

@@ -1,23 +1,21 @@
 -- The rule of a route request, on tables whose expiry is done.
 -- Document 01, "Route rules", "Route request"; 05-3474 section 3.6.4.5.1 (receipt of a route request).
 -- Assumes nothing.
-use Rattle.std.specs.Prelude.{ℕ, Bool, true, false, cond, ltb}
-use Rattle.std.proofs.Math.Option.{Option, none, some}
+use Rattle.std.specs.Prelude.{ℕ, Bool, true, false, cond, ltb, Option, Some, None}
 use Rattle.types.specs.declared.Nwk.{Nwk}
 use Rattle.standard.specs.declared.RouteEntry.{RouteEntry}
 use Rattle.standard.specs.declared.DiscoveryEntry.{DiscoveryEntry}
 use Rattle.standard.specs.declared.ManyToOne.{ManyToOne}
 use Rattle.standard.specs.declared.ManyToOne.TheVariants.{NotManyToOne, SenderSupportsRouteRecordTable, SenderDoesntSupportRouteRecordTable, Reserved}
-use Rattle.standard.specs.declared.Update.{Update}
-use Rattle.standard.specs.declared.Update.TheVariants.{Same}
 use Rattle.standard.specs.Ordered.{lookup, put}
 use Rattle.standard.specs.Route.{route_key, route_or, considered, considering}
 use Rattle.standard.specs.Discovery.{pair_key, discovery_key}
 use Rattle.standard.specs.Tables.{Tables}
+use Rattle.standard.specs.declared.RouteUpdate.{RouteUpdate}
 
 pub record Requested : Type 0 where
   pub accepted : Bool
-  pub update : Update
+  pub update : Option RouteUpdate
   pub tables : Tables
 
 -- a discovery made by a request, or by a search of our own; the residual is not known yet
@@ -79,11 +77,11 @@ accepting originator sender cost many_to_one d t = record {
 
 -- "A known pair with cost above its forward cost is not accepted and nothing else happens."
 unfoldable pub request_to : Nwk → ℕ → Nwk → Nwk → ℕ → ManyToOne → ℕ → Tables → Option DiscoveryEntry → Requested
-request_to originator id destination sender cost many_to_one expires t none =
+request_to originator id destination sender cost many_to_one expires t None =
     accepting originator sender cost many_to_one (new_discovery originator id sender cost expires destination) t
-request_to originator id destination sender cost many_to_one expires t (some d) =
+request_to originator id destination sender cost many_to_one expires t (Some d) =
     cond (ltb d.forward_cost cost)
-    (record { accepted = false; update = Same; tables = t })
+    (record { accepted = false; update = None; tables = t })
     (accepting originator sender cost many_to_one (reached sender cost d) t)
 
 -- a request of the search (originator, id) for a destination, heard from a sender at a cost; a new discovery expires at `expires`

@@ -1,15 +1,13 @@
 -- A row of the route table, and what a candidate does to it.
 -- Document 01, "Route rules": "Accepting a candidate"; 05-3474 section 3.6.4.5.3 for the suitability rule.
 -- Assumes nothing.
-use Rattle.std.specs.Prelude.{ℕ, ◌+◌, ◌-◌, min, Bool, true, false, cond, not, ◌&&◌, ◌||◌, List, ltb, eqb}
-use Rattle.std.proofs.Math.Option.{get_or}
+use Rattle.std.specs.Prelude.{ℕ, ◌+◌, ◌-◌, min, Bool, true, false, cond, not, ◌&&◌, ◌||◌, List, ltb, eqb, Option, Some, None, unwrap_or}
 use Rattle.types.specs.declared.Nwk.{Nwk}
 use Rattle.standard.specs.declared.Status.{Status}
 use Rattle.standard.specs.declared.Status.TheVariants.{Active, DiscoveryUnderway, DiscoveryFailed, Inactive}
 use Rattle.standard.specs.declared.RouteEntry.{RouteEntry}
-use Rattle.standard.specs.declared.Update.{Update}
-use Rattle.standard.specs.declared.Update.TheVariants.{Same, Changed}
 use Rattle.standard.specs.Ordered.{lookup}
+use Rattle.standard.specs.declared.RouteUpdate.{RouteUpdate}
 
 abbrev pub nwk : ℕ → Nwk
 nwk n = record { 0 = n }
@@ -51,7 +49,7 @@ new_route d s hop = record {
 
 -- the route to d, or the one that would be made for it
 abbrev pub route_or : Nwk → List RouteEntry → RouteEntry
-route_or d xs = get_or (lookup route_key d.0 xs) (new_route d Inactive unknown_hop)
+route_or d xs = unwrap_or (lookup route_key d.0 xs) (new_route d Inactive unknown_hop)
 
 abbrev pub with_status : Status → RouteEntry → RouteEntry
 with_status s e = record {
@@ -90,14 +88,14 @@ unfoldable pub considered : Nwk → ℕ → RouteEntry → RouteEntry
 considered hop cost e = cond (suits cost e) (via hop cost e) e
 
 -- "an update is reported only if the route was not Active or its hop changed"
-unfoldable pub news : Nwk → ℕ → RouteEntry → Update
+unfoldable pub news : Nwk → ℕ → RouteEntry → Option RouteUpdate
 news hop cost e =
-    cond (is_active e.status && eqb e.next_hop_address.0 hop.0) Same
-    (Changed (record { destination = e.destination; next_hop = hop; path_cost = cost }))
+    cond (is_active e.status && eqb e.next_hop_address.0 hop.0) None
+    (Some (record { destination = e.destination; next_hop = hop; path_cost = cost }))
 
 -- what a candidate reports
-unfoldable pub considering : Nwk → ℕ → RouteEntry → Update
-considering hop cost e = cond (suits cost e) (news hop cost e) Same
+unfoldable pub considering : Nwk → ℕ → RouteEntry → Option RouteUpdate
+considering hop cost e = cond (suits cost e) (news hop cost e) None
 
 -- "Usage counts stop at 255 and 4,294,967,295"
 abbrev pub used : RouteEntry → RouteEntry

@@ -5,7 +5,7 @@
 use types::Nwk;
 
 // How a route stands, in the specification's number order.
-#[derive(Clone, Copy)]
+#[derive(Clone, Copy, Debug, PartialEq, Eq)]
 pub enum Status {
     Active,
     DiscoveryUnderway,
@@ -48,7 +48,7 @@ pub struct RecordEntry {
 }
 
 // The many-to-one field of a route request, in number order.
-#[derive(Drop)]
+#[derive(Clone, Copy, Debug, PartialEq, Eq)]
 pub enum ManyToOne {
     NotManyToOne,
     SenderSupportsRouteRecordTable,
@@ -62,13 +62,6 @@ pub struct RouteUpdate {
     pub destination: Nwk,
     pub next_hop: Nwk,
     pub path_cost: u8,
-}
-
-// What a call reports of routes.
-#[derive(Drop)]
-pub enum Update {
-    Same,
-    Changed(RouteUpdate),
 }
 
 // What is to be done with a route reply.
@@ -91,5 +84,4 @@ pub struct RelayList {
 pub enum RecordRoute {
     Direct,
     SourceRoute,
-    None,
 }

@@ -19,11 +19,7 @@ pub struct Turn {
 fn clear(store: &mut [u16])
     ensures { store.new ≡ cleared store.old }
 {
-    let mut i: usize = 0;
-    while i < store.len() {
-        store[i] = 0;
-        i += 1;
-    }
+    store.fill(0);
 }
 
 // The fresh world, and the store with it.

@@ -1,11 +1,10 @@
 -- The record and the routing state agree: each of the state's three calls on its counters is the record's step on the two counters that the state holds, put back in it. Both sides compute to the same.
 -- Assumes nothing.
+use Rattle.std.specs.Prelude.{Ok}
 use mathlib.Core.Path.{◌≡◌, refl}
 use Prim.Native.Nat.{ℕ}
-use Rattle.route_calls.specs.declared.RouteAnswer.TheVariants as route-answer
 use Rattle.routing.specs.declared.Routing.{Routing}
 use Rattle.routing.specs.declared.DoneOutcome.{DoneOutcome}
-use Rattle.routing.specs.declared.ToldAnswer.TheVariants as told
 use Rattle.routing.specs.declared.ToldOutcome.{ToldOutcome}
 use Rattle.routing.specs.Queries.{note_route_error_core, note_delivery_failure_core, reset_mtorr_triggers_core}
 use Rattle.routing.specs.State.{with_triggers}
@@ -22,10 +21,10 @@ holding s t = with_triggers s t.mtorr_route_errors t.mtorr_delivery_failures
 
 -- an answer with its counters, as the state's calls give it
 abbrev told_in : Routing → Noted → ToldOutcome
-told_in s r = record { answer = told.Told r.told; state = holding s r.counters }
+told_in s r = record { answer = Ok r.told; state = holding s r.counters }
 
 abbrev done-in : Routing → Triggers → DoneOutcome
-done-in s t = record { answer = route-answer.Done; state = holding s t }
+done-in s t = record { answer = Ok tt; state = holding s t }
 
 pub error-agrees : (s : Routing) (threshold : ℕ) → note_route_error_core s threshold ≡ told_in s (noted_error (held s) threshold)
 error-agrees s threshold = refl

@@ -24,7 +24,7 @@ pub struct Noted {
 fn next_count(count: u8) -> u8
     ensures { result ≡ next_count count }
 {
-    types::saturating_add_u8(count, 1)
+    count.saturating_add(1)
 }
 
 // A trigger fires at its threshold and above it.

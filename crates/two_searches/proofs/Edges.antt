@@ -5,11 +5,11 @@
 -- Two conditions are wider than the merge needs, as `merged-apart` (Merged) shows: a responder may be its own search's originator, and it
 -- may be an originator that is us. The first is needed for the route that is left: `responder-is-own-originator`. For the second nothing
 -- fails: an own search writes no originator's route. The held searches and the route entries are needed for what is relayed and for room.
+use Rattle.std.specs.Prelude.{Option, Some, None}
 use Prim.Native.Nat.{ℕ}
 use mathlib.Core.Path.{◌≡◌, refl, ap}
 use mathlib.Core.Logic.{◌⊎◌, inl, inr}
 use mathlib.Core.List.{List, [], ◌∷◌}
-use mathlib.Core.Option.{Option, none, some}
 use native.Mathlib.Omega.{arith}
 use lib.ListN.{length}
 use Rattle.types.specs.declared.Nwk.{Nwk}
@@ -29,12 +29,12 @@ use Rattle.two_searches.proofs.Worked.{own, lost, in_use, wanted, tables, search
 
 -- the cost and the hop of the route to n; 0 without one
 abbrev cost_in : Option RouteEntry → ℕ
-cost_in none = 0
-cost_in (some r) = r.path_cost
+cost_in None = 0
+cost_in (Some r) = r.path_cost
 
 abbrev hop_in : Option RouteEntry → ℕ
-hop_in none = 0
-hop_in (some r) = r.next_hop_address.0
+hop_in None = 0
+hop_in (Some r) = r.next_hop_address.0
 
 abbrev cost_to : ℕ → Tables → ℕ
 cost_to n t = cost_in (lookup route_key n t.routes)

@@ -4,12 +4,12 @@
 -- Not all of the conditions are needed for that. `merged-apart` wants no order of the rows, no held search, no route entry, no byte; and a
 -- responder may be its own search's originator, or an originator that is us. What those conditions are for: a search that is held and
 -- responders with route entries, for what is relayed (Exact, Own); foreign originators with route entries, for no refusal (Sizes).
+use Rattle.std.specs.Prelude.{None}
 use Prim.Native.Nat.{ℕ}
 use mathlib.Core.Path.{◌≡◌, refl, sym, ap, ◌∙◌}
 use mathlib.Core.Logic.{◌⊎◌, inl, inr, ◌≢◌}
 use mathlib.Core.Bool.{Bool, true, false, cond}
 use mathlib.Core.List.{List, [], ◌∷◌}
-use mathlib.Core.Option.{none}
 use native.Mathlib.Omega.{arith}
 use borrow.Author.Tests.{eqb-false}
 use Rattle.types.specs.declared.Nwk.{Nwk}
@@ -68,7 +68,7 @@ module _ (own : Nwk) (a b : Search) (p : Apart own a b) where
     r = route _ (inl refl)
 
     o : (m : Bool) → is_ours_of own a ≡ m
-        → cond m none (lookup route_key a.originator.0 (puts route_key c.routes t.routes)) ≡ cond m none (lookup route_key a.originator.0 t.routes)
+        → cond m None (lookup route_key a.originator.0 (puts route_key c.routes t.routes)) ≡ cond m None (lookup route_key a.originator.0 t.routes)
     o true e = refl
     o false e = route _ (inr (refl, eqb-false _ _ e))
 

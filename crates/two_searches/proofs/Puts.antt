@@ -1,10 +1,10 @@
 -- Rows put one after the other leave every key but their own, and two such rows of puts commute if no key is in both:
 -- each is the law of a single put, taken as often as there are rows.
+use Rattle.std.specs.Prelude.{Some}
 use Prim.Native.Nat.{ℕ}
 use mathlib.Core.Path.{◌≡◌, refl, sym, ap, ◌∙◌, subst}
 use mathlib.Core.Bool.{Bool, true, false, cond}
 use mathlib.Core.List.{List, [], ◌∷◌}
-use mathlib.Core.Option.{some}
 use lib.Dec.{eqb}
 use borrow.Author.Tests.{eqb-true, eqb-false}
 use Rattle.standard.specs.Ordered.{lookup, put}
@@ -22,9 +22,9 @@ module _ {E : Type 0} (key_of : E → ℕ) where
   Within K (e ∷ es) = K (key_of e) × Within K es
 
   -- a look-up after a put, at its key or another
-  pub lookup-put : (k : ℕ) (e : E) (xs : List E) → lookup key_of k (put key_of e xs) ≡ cond (eqb (key_of e) k) (some e) (lookup key_of k xs)
+  pub lookup-put : (k : ℕ) (e : E) (xs : List E) → lookup key_of k (put key_of e xs) ≡ cond (eqb (key_of e) k) (Some e) (lookup key_of k xs)
   lookup-put k e xs = go (eqb (key_of e) k) refl where
-    go : (b : Bool) → eqb (key_of e) k ≡ b → lookup key_of k (put key_of e xs) ≡ cond b (some e) (lookup key_of k xs)
+    go : (b : Bool) → eqb (key_of e) k ≡ b → lookup key_of k (put key_of e xs) ≡ cond b (Some e) (lookup key_of k xs)
     go true q = rw (← eqb-true (key_of e) k q) (lookup-put-same key_of e xs)
     go false q = lookup-put-other key_of k e xs (eqb-false (key_of e) k q)
 

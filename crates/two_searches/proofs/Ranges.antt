@@ -1,11 +1,11 @@
 -- Any reply, as a frame carries it, keeps every row's numbers within their fields: what it writes is its own sender and cost,
 -- the discovery's sender and forward cost, or a row that was found or is made new, and all of those are within theirs.
+use Rattle.std.specs.Prelude.{Option, Some, None, unwrap_or}
 use Prim.Native.Nat.{ℕ, ◌<◌}
 use native.Mathlib.Omega.{arith}
 use mathlib.Core.Path.{◌≡◌, refl, ap}
 use mathlib.Core.Bool.{Bool, true, false, cond}
 use mathlib.Core.List.{List, [], ◌∷◌}
-use mathlib.Core.Option.{Option, none, some, get_or}
 use lib.Dec.{leb, eqb}
 use Rattle.types.specs.declared.Nwk.{Nwk}
 use Rattle.standard.specs.declared.RouteEntry.{RouteEntry}
@@ -54,10 +54,10 @@ module _ (own : Nwk) (s : Search) (x : Heard) (t : Tables) (h : Ranged t) where
   found-in-range : (r : RouteEntry) → route.InRange r → route.InRange (found s r (lookup route_key s.originator.0 t.routes))
   found-in-range r f = go (eqb (route_key r) s.originator.0) (lookup route_key s.originator.0 t.routes) refl where
     go : (b : Bool) (o : Option RouteEntry) → lookup route_key s.originator.0 t.routes ≡ o
-        → route.InRange (get_or (cond b (some r) o) (new_route s.originator Inactive unknown_hop))
+        → route.InRange (unwrap_or (cond b (Some r) o) (new_route s.originator Inactive unknown_hop))
     go true o e = f
-    go false none e = record { hop = omega arith; cost = omega arith; recent = omega arith }
-    go false (some q) e = each-found route_key route.InRange s.originator.0 t.routes q h.routes e
+    go false None e = record { hop = omega arith; cost = omega arith; recent = omega arith }
+    go false (Some q) e = each-found route_key route.InRange s.originator.0 t.routes q h.routes e
 
   -- what a reply puts
   pub change-in-range : InRange (decide own s x (view own s t)).1
@@ -69,20 +69,20 @@ module _ (own : Nwk) (s : Search) (x : Heard) (t : Tables) (h : Ranged t) where
       pick true w k = record { routes = tt; discoveries = tt }
       pick false w k = k
 
-      responder : (r : RouteEntry) → lookup route_key s.responder.0 t.routes ≡ some r → route.InRange (via x.sender x.cost r)
+      responder : (r : RouteEntry) → lookup route_key s.responder.0 t.routes ≡ Some r → route.InRange (via x.sender x.cost r)
       responder r f = via-in-range x.sender x.cost r x.short x.byte (each-found route_key route.InRange s.responder.0 t.routes r h.routes f)
 
       go : (b : Bool)
           → (d : Option DiscoveryEntry) → lookup discovery_key (search_key s) t.discoveries ≡ d
           → (r : Option RouteEntry) → lookup route_key s.responder.0 t.routes ≡ r
-          → InRange (decide_on b s x d r (cond b none (lookup route_key s.originator.0 t.routes))).1
-      go b none e r f = record { routes = tt; discoveries = tt }
-      go b (some d) e none f = record { routes = tt; discoveries = tt }
-      go true (some d) e (some r) f =
+          → InRange (decide_on b s x d r (cond b None (lookup route_key s.originator.0 t.routes))).1
+      go b None e r f = record { routes = tt; discoveries = tt }
+      go b (Some d) e None f = record { routes = tt; discoveries = tt }
+      go true (Some d) e (Some r) f =
           let k : discovery.InRange d = each-found discovery_key discovery.InRange (search_key s) t.discoveries d h.discoveries e in
           pick (drop_ours x.cost d r) (establishing x d r)
           (record { routes = (responder r f, tt); discoveries = (settled-in-range x.cost d x.byte k, tt) })
-      go false (some d) e (some r) f =
+      go false (Some d) e (Some r) f =
           let k : discovery.InRange d = each-found discovery_key discovery.InRange (search_key s) t.discoveries d h.discoveries e in
           pick (leb d.residual_cost x.cost) (relaying x d r _)
           (record {

@@ -1,11 +1,11 @@
 -- Which replies of a stream are taken, for our own search and another's alike: a reply is tested against the residual, and a reply taken
 -- makes its cost the residual, so that the residual is always the lowest cost so far. By going through the stream.
+use Rattle.std.specs.Prelude.{Option, Some, None}
 use Prim.Native.Nat.{ℕ, zero, suc, ◌<◌, ◌≤◌}
 use mathlib.Core.Path.{◌≡◌, refl, sym, ap, ◌∙◌}
 use mathlib.Core.Logic.{◌⊎◌, inl, inr, ◌≢◌, ◌↔◌}
 use mathlib.Core.Bool.{Bool, true, false, cond, false≢true}
 use mathlib.Core.List.{List, [], ◌∷◌}
-use mathlib.Core.Option.{Option, none, some}
 use native.Mathlib.Omega.{arith}
 use lib.Dec.{leb, eqb}
 use lib.ListN.{length}
@@ -62,7 +62,7 @@ module _ (own : Nwk) (s : Search) where
     -- the cost is the residual now
     done-discovery : HeldAs s (settled x.cost d) (applied done.1 t)
     done-discovery = go (is_ours_of own s) (view own s t).originator where
-      put-there : lookup discovery_key (search_key s) (put discovery_key (settled x.cost d) t.discoveries) ≡ some (settled x.cost d)
+      put-there : lookup discovery_key (search_key s) (put discovery_key (settled x.cost d) t.discoveries) ≡ Some (settled x.cost d)
       put-there = rw (← lookup_key discovery_key (search_key s) t.discoveries d h.discovery) (lookup-put-same discovery_key (settled x.cost d) t.discoveries)
 
       go : (b : Bool) (o : Option RouteEntry) → HeldAs s (settled x.cost d) (applied (taking b s x d r o).1 t)
@@ -70,14 +70,14 @@ module _ (own : Nwk) (s : Search) where
       go false o = put-there
 
     -- the responder's route as it is written
-    written-route : lookup route_key s.responder.0 (put route_key (via x.sender x.cost r) t.routes) ≡ some (via x.sender x.cost r)
+    written-route : lookup route_key s.responder.0 (put route_key (via x.sender x.cost r) t.routes) ≡ Some (via x.sender x.cost r)
     written-route = rw (← responder-key) (lookup-put-same route_key (via x.sender x.cost r) t.routes)
 
     -- what a relay does to the originator's route leaves it, if the responder is not the originator
     done-route : (is_ours_of own s ≡ false → s.responder.0 ≢ s.originator.0) → RouteTo s.responder (via x.sender x.cost r) (applied done.1 t)
     done-route n = go (is_ours_of own s) n where
       go : (b : Bool) → (b ≡ false → s.responder.0 ≢ s.originator.0)
-          → RouteTo s.responder (via x.sender x.cost r) (applied (taking b s x d r (cond b none (lookup route_key s.originator.0 t.routes))).1 t)
+          → RouteTo s.responder (via x.sender x.cost r) (applied (taking b s x d r (cond b None (lookup route_key s.originator.0 t.routes))).1 t)
       go true n = written-route
       go false n =
           lookup-put-other route_key s.responder.0 _ (put route_key (via x.sender x.cost r) t.routes)
@@ -88,7 +88,7 @@ module _ (own : Nwk) (s : Search) where
     done-known : (q : RouteEntry) × RouteTo s.responder q (applied done.1 t) × (is_ours_of own s ≡ true → is_active q.status ≡ true)
     done-known = go (is_ours_of own s) (view own s t).originator where
       over : (c : Bool) (e : RouteEntry) → eqb (route_key e) s.responder.0 ≡ c
-          → (q : RouteEntry) × (lookup route_key s.responder.0 (put route_key e (put route_key (via x.sender x.cost r) t.routes)) ≡ some q)
+          → (q : RouteEntry) × (lookup route_key s.responder.0 (put route_key e (put route_key (via x.sender x.cost r) t.routes)) ≡ Some q)
           × (false ≡ true → is_active q.status ≡ true)
       over true e m = (e, rw (lookup-put, m) refl, λ f. absurd (false≢true f))
       over false e m = (via x.sender x.cost r, rw (lookup-put, m) written-route, λ f. refl)
@@ -226,14 +226,14 @@ module _
     unfolding answers final
     last_taken n [] t d r h i l = absurd (drop-not-marked l.here)
     last_taken n (x ∷ xs) t d r h zero l = go (drops (is_ours_of own s) x d r) refl where
-      none : Nowhere Marked (answers (hear own s) xs (hear own s x t).1)
-      none = λ j m. l.none-later (suc j) (omega arith) (omega arith)
+      None : Nowhere Marked (answers (hear own s) xs (hear own s x t).1)
+      None = λ j m. l.none-later (suc j) (omega arith) (omega arith)
 
       go : (c : Bool) → drops (is_ours_of own s) x d r ≡ c → RouteTo s.responder (via x.sender x.cost r) (final (hear own s) xs (hear own s x t).1)
       go true e = absurd (dropped-is-unmarked x t d r h e l.here)
       go false e =
           let k = stands_after x t d r h n e in
-          rw (nothing-taken xs (hear own s x t).1 (settled x.cost d) (via x.sender x.cost r) k none) k.route
+          rw (nothing-taken xs (hear own s x t).1 (settled x.cost d) (via x.sender x.cost r) k None) k.route
     last_taken n (x ∷ xs) t d r h (suc i) l = go (drops (is_ours_of own s) x d r) refl (λ u e q k. last_taken n xs u e q k i) where
       rest-last : Last Marked (answers (hear own s) xs (hear own s x t).1) i
       rest-last = record { here = l.here; none-later = λ j m k. l.none-later (suc j) (omega arith) (omega arith) }

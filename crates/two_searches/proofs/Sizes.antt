@@ -1,11 +1,11 @@
 -- Under the conditions no reply makes or removes a row, and the rows stay in order: every row is put where one stands already.
 -- So no reply is refused for want of room, and the conditions hold after it as before.
+use Rattle.std.specs.Prelude.{Some}
 use Prim.Native.Nat.{ℕ}
 use mathlib.Core.Path.{◌≡◌, refl, sym, ap, ◌∙◌, subst}
 use mathlib.Core.Logic.{◌⊎◌, inl, inr}
 use mathlib.Core.Bool.{Bool, true, false, cond}
 use mathlib.Core.List.{List, [], ◌∷◌}
-use mathlib.Core.Option.{some}
 use lib.Dec.{eqb}
 use lib.ListN.{length}
 use Rattle.types.specs.declared.Nwk.{Nwk}
@@ -24,11 +24,11 @@ use Rattle.two_searches.proofs.Ranges.{ranged-kept}
 module _ {E : Type 0} (key_of : E → ℕ) where
   -- there is a row under k
   abbrev Present : List E → ℕ → Type 0
-  Present xs k = (e : E) × (lookup key_of k xs ≡ some e)
+  Present xs k = (e : E) × (lookup key_of k xs ≡ Some e)
 
   present-put : (k : ℕ) (e : E) (xs : List E) → Present xs k → Present (put key_of e xs) k
   present-put k e xs p = go (eqb (key_of e) k) (lookup-put key_of k e xs) where
-    go : (b : Bool) → lookup key_of k (put key_of e xs) ≡ cond b (some e) (lookup key_of k xs) → Present (put key_of e xs) k
+    go : (b : Bool) → lookup key_of k (put key_of e xs) ≡ cond b (Some e) (lookup key_of k xs) → Present (put key_of e xs) k
     go true q = (e, q)
     go false q = (p.0, q ∙ p.1)
 

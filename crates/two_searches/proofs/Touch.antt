@@ -1,11 +1,11 @@
 -- What a reply touches: it reads the search's discovery, the responder's route and, for another node's search, the originator's route;
 -- and whatever it puts, it puts under those same keys. Read off the rule by its cases.
+use Rattle.std.specs.Prelude.{Option, Some, None, unwrap_or}
 use Prim.Native.Nat.{ℕ}
 use mathlib.Core.Path.{◌≡◌, refl, ◌∙◌}
 use mathlib.Core.Logic.{◌⊎◌, inl, inr, ◌≢◌}
 use mathlib.Core.Bool.{Bool, true, false, cond}
 use mathlib.Core.List.{List, [], ◌∷◌}
-use mathlib.Core.Option.{Option, none, some, get_or}
 use lib.Dec.{leb, eqb}
 use borrow.Author.Tests.{eqb-true, eqb-false}
 use Rattle.types.specs.declared.Nwk.{Nwk}
@@ -45,12 +45,12 @@ abbrev pub view : Nwk → Search → Tables → View
 view own s t = record {
   discovery = lookup discovery_key (search_key s) t.discoveries;
   responder = lookup route_key s.responder.0 t.routes;
-  originator = cond (is_ours_of own s) none (lookup route_key s.originator.0 t.routes);
+  originator = cond (is_ours_of own s) None (lookup route_key s.originator.0 t.routes);
 }
 
 -- the originator's route as a relay finds it: the responder's, just written, if they are one
 abbrev pub found : Search → RouteEntry → Option RouteEntry → RouteEntry
-found s r o = get_or (cond (eqb (route_key r) s.originator.0) (some r) o) (new_route s.originator Inactive unknown_hop)
+found s r o = unwrap_or (cond (eqb (route_key r) s.originator.0) (Some r) o) (new_route s.originator Inactive unknown_hop)
 
 abbrev pub leaves : Answer × Change
 leaves = (drop_answer, record { routes = []; discoveries = [] })
@@ -78,9 +78,9 @@ taking true s x d r o = establishing x d r
 taking false s x d r o = relaying x d r (found s (via x.sender x.cost r) o)
 
 abbrev pub decide_on : Bool → Search → Heard → Option DiscoveryEntry → Option RouteEntry → Option RouteEntry → Answer × Change
-decide_on ours s x none r o = leaves
-decide_on ours s x (some d) none o = leaves
-decide_on ours s x (some d) (some r) o = cond (drops ours x d r) leaves (taking ours s x d r o)
+decide_on ours s x None r o = leaves
+decide_on ours s x (Some d) None o = leaves
+decide_on ours s x (Some d) (Some r) o = cond (drops ours x d r) leaves (taking ours s x d r o)
 
 -- the answer and the rows to put, by the rows read
 unfoldable pub decide : Nwk → Search → Heard → View → Answer × Change
@@ -101,11 +101,11 @@ hear-is own s x t =
   where
     go : (b : Bool) (d : Option DiscoveryEntry) (r : Option RouteEntry)
         → told (reply_to b s.originator x.sender x.cost t d r)
-        ≡ carried (decide_on b s x d r (cond b none (lookup route_key s.originator.0 t.routes))) t
-    go b none r = refl
-    go b (some d) none = refl
-    go true (some d) (some r) = told-cond (drop_ours x.cost d r) t _ _ leaves (establishing x d r) refl refl
-    go false (some d) (some r) = told-cond (leb d.residual_cost x.cost) t _ _ leaves _ refl (rw lookup-put)
+        ≡ carried (decide_on b s x d r (cond b None (lookup route_key s.originator.0 t.routes))) t
+    go b None r = refl
+    go b (Some d) None = refl
+    go true (Some d) (Some r) = told-cond (drop_ours x.cost d r) t _ _ leaves (establishing x d r) refl refl
+    go false (Some d) (Some r) = told-cond (leb d.residual_cost x.cost) t _ _ leaves _ refl (rw lookup-put)
 
 -- a reply to a search that is held, whose responder has a route
 pub hear-held : (own : Nwk) (s : Search) (x : Heard) (t : Tables) (d : DiscoveryEntry) (r : RouteEntry) → HeldAs s d t → RouteTo s.responder r t
@@ -135,10 +135,10 @@ considered-key hop cost e = go (suits cost e) where
 pub found-key : (s : Search) (r : RouteEntry) (xs : List RouteEntry) → route_key (found s r (lookup route_key s.originator.0 xs)) ≡ s.originator.0
 found-key s r xs = go (eqb (route_key r) s.originator.0) refl (lookup route_key s.originator.0 xs) refl where
   go : (b : Bool) → eqb (route_key r) s.originator.0 ≡ b → (o : Option RouteEntry) → lookup route_key s.originator.0 xs ≡ o
-      → route_key (get_or (cond b (some r) o) (new_route s.originator Inactive unknown_hop)) ≡ s.originator.0
+      → route_key (unwrap_or (cond b (Some r) o) (new_route s.originator Inactive unknown_hop)) ≡ s.originator.0
   go true e o f = eqb-true (route_key r) s.originator.0 e
-  go false e none f = refl
-  go false e (some q) f = lookup_key route_key s.originator.0 xs q f
+  go false e None f = refl
+  go false e (Some q) f = lookup_key route_key s.originator.0 xs q f
 
 pub own_keys : (own : Nwk) (s : Search) (x : Heard) (t : Tables) → OwnKeys own s (decide own s x (view own s t)).1
 unfolding decide
@@ -152,13 +152,13 @@ own_keys own s x t =
     go : (b : Bool) → is_ours_of own s ≡ b
         → (d : Option DiscoveryEntry) → lookup discovery_key (search_key s) t.discoveries ≡ d
         → (r : Option RouteEntry) → lookup route_key s.responder.0 t.routes ≡ r
-        → OwnKeys own s (decide_on b s x d r (cond b none (lookup route_key s.originator.0 t.routes))).1
-    go b m none e r f = record { routes = tt; discoveries = tt }
-    go b m (some d) e none f = record { routes = tt; discoveries = tt }
-    go true m (some d) e (some r) f =
+        → OwnKeys own s (decide_on b s x d r (cond b None (lookup route_key s.originator.0 t.routes))).1
+    go b m None e r f = record { routes = tt; discoveries = tt }
+    go b m (Some d) e None f = record { routes = tt; discoveries = tt }
+    go true m (Some d) e (Some r) f =
         pick (drop_ours x.cost d r) (establishing x d r)
         (record { routes = (inl (lookup_key route_key _ _ r f), tt); discoveries = (lookup_key discovery_key _ _ d e, tt) })
-    go false m (some d) e (some r) f =
+    go false m (Some d) e (Some r) f =
         pick (leb d.residual_cost x.cost) (relaying x d r _)
         (record {
           routes = (

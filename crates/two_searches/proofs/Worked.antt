@@ -1,5 +1,6 @@
 -- The conditions can be met: worked tables with searches that meet them all, and a merge of six replies.
 -- Every answer and the end are found by computing the rule.
+use Rattle.std.specs.Prelude.{Option, Some, None}
 use Prim.Native.Nat.{ℕ, ◌%◌}
 use mathlib.Core.Path.{◌≡◌, refl}
 use mathlib.Core.Logic.{◌⊎◌, inl, inr, ◌≢◌}
@@ -9,8 +10,6 @@ use Rattle.types.specs.declared.Nwk.{Nwk}
 use Rattle.standard.specs.declared.RouteEntry.{RouteEntry}
 use Rattle.standard.specs.declared.DiscoveryEntry.{DiscoveryEntry}
 use Rattle.standard.specs.declared.Status.TheVariants.{DiscoveryUnderway, Inactive}
-use Rattle.standard.specs.declared.Update.{Update}
-use Rattle.standard.specs.declared.Update.TheVariants.{Same, Changed}
 use Rattle.standard.specs.declared.RouteReplyDisposition.{RouteReplyDisposition}
 use Rattle.standard.specs.declared.RouteReplyDisposition.TheVariants.{Established, Relay}
 use Rattle.standard.specs.Ordered.{lookup, put}
@@ -25,6 +24,7 @@ use Rattle.two_searches.specs.Exactly.{drop_answer}
 use Rattle.two_searches.specs.Promise.{Promise}
 use Rattle.two_searches.proofs.Merged.{addresses-differ}
 use Rattle.two_searches.proofs.TwoSearches.{two-searches}
+use Rattle.standard.specs.declared.RouteUpdate.{RouteUpdate}
 
 -- our own address
 abbrev pub own : Nwk
@@ -145,16 +145,16 @@ mixed =
 pub six : Merge their_stream our_stream mixed
 six = of-first (of-second (of-second (of-first (of-first (of-second done)))))
 
-abbrev pub changed : ℕ → ℕ → ℕ → Update
-changed destination hop cost = Changed (record { destination = nwk destination; next_hop = nwk hop; path_cost = cost })
+abbrev pub changed : ℕ → ℕ → ℕ → Option RouteUpdate
+changed destination hop cost = Some (record { destination = nwk destination; next_hop = nwk hop; path_cost = cost })
 
-abbrev pub answer : RouteReplyDisposition → Update → Answer
+abbrev pub answer : RouteReplyDisposition → Option RouteUpdate → Answer
 answer d u = record { disposition = d; update = u }
 
 -- relayed (and the way back to 1111 is made again), established, dropped, dropped, relayed, established
 pub six-answers : answers (hear_both own (search 0x1111 7 0x4444) (search 0x0000 1 0x5555)) mixed tables
     ≡ inl (answer (Relay (nwk 0x2222) 9) (changed 0x1111 0x2222 5)) ∷ inr (answer Established (changed 0x5555 0x6666 12)) ∷ inr drop_answer
-    ∷ inl drop_answer ∷ inl (answer (Relay (nwk 0x2222) 8) Same) ∷ inr (answer Established (changed 0x5555 0x8888 10)) ∷ []
+    ∷ inl drop_answer ∷ inl (answer (Relay (nwk 0x2222) 8) None) ∷ inr (answer Established (changed 0x5555 0x8888 10)) ∷ []
 unfolding answers either hear reply reply_to reply_ours reply_theirs lookup put considered considering news
 six-answers = refl
 

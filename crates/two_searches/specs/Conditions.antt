@@ -3,8 +3,7 @@
 --   discovery table, one responder each, our own address unchanged. The responders differ from each other and from both originators;
 --   the originators differ unless both are us; responders and foreign originators have route entries; no other call comes between."
 -- Assumes nothing.
-use Rattle.std.specs.Prelude.{ℕ, ◌<◌, ◌≤◌, ◌≡◌, ◌≢◌, length}
-use Rattle.std.proofs.Math.Option.{some}
+use Rattle.std.specs.Prelude.{ℕ, ◌<◌, ◌≤◌, ◌≡◌, ◌≢◌, length, Some}
 use Rattle.types.specs.declared.Nwk.{Nwk}
 use Rattle.standard.specs.declared.RouteEntry.{RouteEntry}
 use Rattle.standard.specs.declared.DiscoveryEntry.{DiscoveryEntry}
@@ -23,11 +22,11 @@ search_key s = pair_key s.originator s.id
 
 -- the discovery d is the search's
 abbrev pub HeldAs : Search → DiscoveryEntry → Tables → Type 0
-HeldAs s d t = lookup discovery_key (search_key s) t.discoveries ≡ some d
+HeldAs s d t = lookup discovery_key (search_key s) t.discoveries ≡ Some d
 
 -- r is the route to n
 abbrev pub RouteTo : Nwk → RouteEntry → Tables → Type 0
-RouteTo n r t = lookup route_key n.0 t.routes ≡ some r
+RouteTo n r t = lookup route_key n.0 t.routes ≡ Some r
 
 -- the search is in the discovery table
 abbrev pub Held : Search → Tables → Type 0

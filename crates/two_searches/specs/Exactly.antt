@@ -3,13 +3,12 @@
 --   of that stream; the last one relayed is the responder's route. Our own search establishes by the same rule, but if its responder's
 --   route is not Active at the start, the first reply always establishes and the rule counts from its cost."
 -- Assumes nothing.
-use Rattle.std.specs.Prelude.{ℕ, ◌<◌, ◌≡◌, ◌↔◌, Bool, true, false, List, length, get_or}
+use Rattle.std.specs.Prelude.{ℕ, ◌<◌, ◌≡◌, ◌↔◌, Bool, true, false, List, length, get_or, None}
 use Rattle.std.proofs.Math.Nat.{lt-suc_self, zero-lt-suc}
 use Rattle.standard.specs.declared.RouteEntry.{RouteEntry}
 use Rattle.standard.specs.declared.DiscoveryEntry.{DiscoveryEntry}
 use Rattle.standard.specs.declared.RouteReplyDisposition.{RouteReplyDisposition}
 use Rattle.standard.specs.declared.RouteReplyDisposition.TheVariants.{Drop, Established, Relay}
-use Rattle.standard.specs.declared.Update.TheVariants.{Same}
 use Rattle.standard.specs.Route.{unknown_hop, is_active, via}
 use Rattle.standard.specs.Tables.{Tables}
 use Rattle.two_searches.specs.Streams.{Search, Heard, Answer}
@@ -21,7 +20,7 @@ reply_at xs i = get_or xs i (record { sender = unknown_hop; cost = 0; short = lt
 
 -- an answer that does and reports nothing
 abbrev pub drop_answer : Answer
-drop_answer = record { disposition = Drop; update = Same }
+drop_answer = record { disposition = Drop; update = None }
 
 -- the answer at place i
 abbrev pub answer_at : List Answer → ℕ → Answer

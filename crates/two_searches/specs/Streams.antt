@@ -3,13 +3,13 @@
 -- answered as in its own stream alone, and the tables end the same."
 -- Answers and ends are over any state and any step, so that one set of words serves the rows and the exported call.
 -- Assumes nothing.
-use Rattle.std.specs.Prelude.{ℕ, ◌<◌, ◌≡◌, ◌⊎◌, List, [], ◌∷◌}
+use Rattle.std.specs.Prelude.{ℕ, ◌<◌, ◌≡◌, ◌⊎◌, List, [], ◌∷◌, Option}
 use Rattle.std.proofs.Common.{inl, inr}
 use Rattle.types.specs.declared.Nwk.{Nwk}
-use Rattle.standard.specs.declared.Update.{Update}
 use Rattle.standard.specs.declared.RouteReplyDisposition.{RouteReplyDisposition}
 use Rattle.standard.specs.Tables.{Tables}
 use Rattle.standard.specs.Reply.{Replied, reply}
+use Rattle.standard.specs.declared.RouteUpdate.{RouteUpdate}
 
 -- a search: who began it, its request id, and the one responder that the replies of its stream name
 pub record Search : Type 0 where
@@ -27,7 +27,7 @@ pub record Heard : Type 0 where
 -- what a reply is answered: what is done with it, and the update that is reported
 pub record Answer : Type 0 where
   pub disposition : RouteReplyDisposition
-  pub update : Update
+  pub update : Option RouteUpdate
 
 abbrev pub told : Replied → Answer × Tables
 told r = (record { disposition = r.disposition; update = r.update }, r.tables)

@@ -1,10 +1,10 @@
 -- The waiting table under the laws of columns: the tests tell whether the columns make a table and whether it is well formed, a table is the table of its
 -- senders, and senders that fit are the senders of their table, and still fit after each step.
+use Rattle.std.specs.Prelude.{Some, None, Result, Ok, Err}
 use Prim.Native.Nat.{ℕ, ◌+◌, ◌-◌, ◌<◌, ◌≤◌}
 use native.Mathlib.Omega.{arith}
 use mathlib.Core.Bool.{Bool, true, ◌&&◌}
 use mathlib.Core.List.{List, [], ◌∷◌, map}
-use mathlib.Core.Option.{none, some}
 use mathlib.Core.Path.{◌≡◌, refl, sym, ap, ◌∙◌}
 use lib.Dec.{leb}
 use lib.ListN.{length, take, get_or, set}
@@ -12,8 +12,6 @@ use lib.Seq.{take_all}
 use Rattle.standard.specs.Ordered.{lookup, put, remove, pop_first, count_with}
 use Rattle.standard.specs.Tells.{Tells}
 use Rattle.standard.proofs.Tells.{tells-one, tells_both, tells-so, tells-true}
-use Rattle.flat_map.specs.declared.Place.{Place}
-use Rattle.flat_map.specs.declared.Place.TheVariants.{Found, Missing}
 use Rattle.flat_map.specs.Rows.{pad}
 use Rattle.flat_map.specs.Seek.{place_of}
 use Rattle.flat_map.specs.Shift.{shift_in, shift_out}
@@ -123,27 +121,27 @@ module _ (t : WaitingTable) (w : Formed64 t) where
   in-columns i h = (omega (arith, h, w.ordered.small, w.ordered.long.0), omega (arith, h, w.ordered.small, w.ordered.long.1.0))
 
   -- what the place of a sender says of the rows
-  pub place-within : (k i : ℕ) → Found i ≡ place_of (take t.count t.keys) k → i < t.count
+  pub place-within : (k i : ℕ) → Ok i ≡ place_of (take t.count t.keys) k → i < t.count
   place-within = rows.found_below 64 2 waiting_key blank_waiting waiting_of waiting_numbers Clean InRange codec t.keys (t.samples ∷ []) t.count (table-sound t w)
 
-  pub found-key : (k i : ℕ) → Found i ≡ place_of (take t.count t.keys) k → get_or t.keys i 0 ≡ k
+  pub found-key : (k i : ℕ) → Ok i ≡ place_of (take t.count t.keys) k → get_or t.keys i 0 ≡ k
   found-key = rows.found-key 64 2 waiting_key blank_waiting waiting_of waiting_numbers Clean InRange codec t.keys (t.samples ∷ []) t.count (table-sound t w)
 
-  pub found-row : (k i : ℕ) → Found i ≡ place_of (take t.count t.keys) k → lookup waiting_key k (rows_of t) ≡ some (waiting_in (get_or t.keys i 0) (get_or t.samples i 0))
+  pub found-row : (k i : ℕ) → Ok i ≡ place_of (take t.count t.keys) k → lookup waiting_key k (rows_of t) ≡ Some (waiting_in (get_or t.keys i 0) (get_or t.samples i 0))
   found-row = rows.found 64 2 waiting_key blank_waiting waiting_of waiting_numbers Clean InRange codec t.keys (t.samples ∷ []) t.count (table-sound t w)
 
-  pub missing-row : (k i : ℕ) → Missing i ≡ place_of (take t.count t.keys) k → lookup waiting_key k (rows_of t) ≡ none
+  pub missing-row : (k i : ℕ) → Err i ≡ place_of (take t.count t.keys) k → lookup waiting_key k (rows_of t) ≡ None
   missing-row = rows.missing 64 2 waiting_key blank_waiting waiting_of waiting_numbers Clean InRange codec t.keys (t.samples ∷ []) t.count (table-sound t w)
 
-  pub missing-within : (k i : ℕ) → Missing i ≡ place_of (take t.count t.keys) k → i ≤ t.count
+  pub missing-within : (k i : ℕ) → Err i ≡ place_of (take t.count t.keys) k → i ≤ t.count
   missing-within = flat.missing-within 64 waiting_key blank_waiting t.keys (entries waiting_of 64 (t.keys ∷ t.samples ∷ [])) t.count
       (rows.table 64 2 waiting_key blank_waiting waiting_of waiting_numbers Clean InRange codec t.keys (t.samples ∷ []) t.count (table-sound t w))
 
   -- a sender that is put in finds a place
-  pub free : (k i : ℕ) → Missing i ≡ place_of (take t.count t.keys) k → count_with waiting_key k (rows_of t) ≤ 64 → t.count < 64
+  pub free : (k i : ℕ) → Err i ≡ place_of (take t.count t.keys) k → count_with waiting_key k (rows_of t) ≤ 64 → t.count < 64
   free k i p room = omega (arith, room, many, count-with-missing waiting_key k (rows_of t) (missing-row k i p))
 
-  pub room-told : (k : ℕ) (p : Place) → p ≡ place_of (take t.count t.keys) k → leb (count_with waiting_key k (rows_of t)) 64 ≡ room_for p t.count 64
+  pub room-told : (k : ℕ) (p : Result ℕ ℕ) → p ≡ place_of (take t.count t.keys) k → leb (count_with waiting_key k (rows_of t)) 64 ≡ room_for p t.count 64
   room-told = rows.room-told 64 2 waiting_key blank_waiting waiting_of waiting_numbers Clean InRange codec t.keys (t.samples ∷ []) t.count (table-sound t w)
 
   -- the keys in use are those of the senders
@@ -152,17 +150,17 @@ module _ (t : WaitingTable) (w : Formed64 t) where
       (rows.table 64 2 waiting_key blank_waiting waiting_of waiting_numbers Clean InRange codec t.keys (t.samples ∷ []) t.count (table-sound t w))
 
   -- samples stored over those of their sender, put in where there is none, taken out, the first taken out
-  pub stored-over : (e : WaitingEntry) → InRange e → (i : ℕ) → Found i ≡ place_of (take t.count t.keys) (waiting_key e)
+  pub stored-over : (e : WaitingEntry) → InRange e → (i : ℕ) → Ok i ≡ place_of (take t.count t.keys) (waiting_key e)
       → Keeps (in_columns t.keys (set t.samples i (ring_word e.lqas)) t.count) (put waiting_key e (rows_of t))
   stored-over e r i p = let h = rows.over-put 64 2 waiting_key blank_waiting waiting_of waiting_numbers Clean InRange codec t.keys (t.samples ∷ []) t.count (table-sound t w) e r i p in
       record { formed = sound-formed (in_columns t.keys (set t.samples i (ring_word e.lqas)) t.count) h.0; rows = h.1 }
 
-  pub put_in : (e : WaitingEntry) → InRange e → (i : ℕ) → Missing i ≡ place_of (take t.count t.keys) (waiting_key e) → t.count < 64
+  pub put_in : (e : WaitingEntry) → InRange e → (i : ℕ) → Err i ≡ place_of (take t.count t.keys) (waiting_key e) → t.count < 64
       → Keeps (in_columns (shift_in i (waiting_key e) t.keys) (shift_in i (ring_word e.lqas) t.samples) (t.count + 1)) (put waiting_key e (rows_of t))
   put_in e r i p l = let h = rows.in-put 64 2 waiting_key blank_waiting waiting_of waiting_numbers Clean InRange codec t.keys (t.samples ∷ []) t.count (table-sound t w) e r i p l in
       record { formed = sound-formed (in_columns (shift_in i (waiting_key e) t.keys) (shift_in i (ring_word e.lqas) t.samples) (t.count + 1)) h.0; rows = h.1 }
 
-  pub taken_out : (k i : ℕ) → Found i ≡ place_of (take t.count t.keys) k
+  pub taken_out : (k i : ℕ) → Ok i ≡ place_of (take t.count t.keys) k
       → Keeps (in_columns (shift_out i 0 t.keys) (shift_out i 0 t.samples) (t.count - 1)) (remove waiting_key k (rows_of t))
   taken_out k i p = let h = rows.out-key 64 2 waiting_key blank_waiting waiting_of waiting_numbers Clean InRange codec t.keys (t.samples ∷ []) t.count (table-sound t w) i k p in
       record { formed = sound-formed (in_columns (shift_out i 0 t.keys) (shift_out i 0 t.samples) (t.count - 1)) h.0; rows = h.1 }
@@ -172,7 +170,7 @@ module _ (t : WaitingTable) (w : Formed64 t) where
       record { formed = sound-formed (in_columns (shift_out 0 0 t.keys) (shift_out 0 0 t.samples) (t.count - 1)) h.0; rows = h.1 ∙ popped (rows_of t) }
 
   -- where there is no such sender, or none at all, the table stays
-  pub none_out : (k i : ℕ) → Missing i ≡ place_of (take t.count t.keys) k → Keeps t (remove waiting_key k (rows_of t))
+  pub none_out : (k i : ℕ) → Err i ≡ place_of (take t.count t.keys) k → Keeps t (remove waiting_key k (rows_of t))
   none_out k i p = record { formed = w; rows = sym (remove_absent waiting_key blank_waiting k (rows_of t) (missing-row k i p)) }
 
   pub empty-out : t.count ≡ 0 → Keeps t (pop_first (rows_of t))

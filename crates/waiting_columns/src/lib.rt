@@ -3,21 +3,17 @@
 #![tactic(auto)]
 
 ghost use Rattle.std.specs.Prelude.{◌≡◌, ◌+◌, ◌-◌, ◌≤◌, ◌<◌, leb, length, take, get_or};
-ghost use Rattle.std.proofs.Math.Option.{none, some};
 ghost use Rattle.flat_map.specs.Seek.{place_of};
 ghost use Rattle.flat_map.specs.Shift.{shift_out};
-ghost use Rattle.flat_map.specs.declared.Place.TheVariants.{Found};
 ghost use Rattle.standard.specs.Ordered.{lookup, put, remove, pop_first, count_with};
 ghost use Rattle.standard.specs.Tells.{Tells};
 ghost use Rattle.waiting_columns.specs.Codec.{waiting_in};
 ghost use Rattle.waiting_table.specs.Entry.{waiting_key};
 ghost use Rattle.waiting_columns.specs.Table.{in_columns, Formed64, formed64, RingsSound, well_formed, rows_of, Keeps};
-ghost use Rattle.waiting_table.specs.Lookup.{looked};
 
-use flat_map::Place;
 use ring_buffer::RingBuffer;
 use types::Nwk;
-use waiting_table::{WaitingEntry, WaitingLookup};
+use waiting_table::WaitingEntry;
 
 // Whether columns make a table, whatever the samples say.
 pub fn formed(keys: &[u16], samples: &[u64], count: usize) -> bool
@@ -32,10 +28,10 @@ pub fn formed(keys: &[u16], samples: &[u64], count: usize) -> bool
     if 64 < count {
         return false;
     }
-    let up = columns::rising16(keys, count);
-    let no_keys = columns::zero_from16(keys, count);
-    let no_samples = columns::zero_from64(samples, count);
-    let small = columns::under64(samples, 1099511627776);
+    let up = columns::rising(keys, count);
+    let no_keys = columns::zero_from(keys, count);
+    let no_samples = columns::zero_from(samples, count);
+    let small = columns::under(samples, 1099511627776);
     up & no_keys & no_samples & small
 }
 
@@ -45,10 +41,8 @@ fn rings_sound(samples: &[u64], count: usize) -> bool
     ensures { Tells (RingsSound samples.now count) result }
 {
     let mut ok = true;
-    let mut i: usize = 0;
-    while i < count {
-        ok = ok & ring_buffer::word_sound(samples[i]);
-        i += 1;
+    for w in &samples[..count] {
+        ok = ok & ring_buffer::word_sound(*w);
     }
     ok
 }
@@ -64,11 +58,11 @@ pub fn well_formed(keys: &[u16], samples: &[u64], count: usize) -> bool
 }
 
 // Where the samples of a sender stand, or would stand.
-pub fn place_of(keys: &[u16], samples: &[u64], count: usize, nwk: Nwk) -> Place
+pub fn place_of(keys: &[u16], samples: &[u64], count: usize, nwk: Nwk) -> Result<usize, usize>
     requires { Formed64 (in_columns keys.now samples.now count) }
     ensures { result ≡ place_of (take count keys.now) nwk.0 }
 {
-    columns::index16(keys, count, nwk.0)
+    columns::index_of(keys, count, nwk.0)
 }
 
 // The entry in a place.
@@ -82,38 +76,15 @@ pub fn entry_at(keys: &[u16], samples: &[u64], i: usize) -> WaitingEntry
     }
 }
 
-// A look-up that found an entry.
-fn found(entry: WaitingEntry) -> WaitingLookup
-    ensures { result ≡ looked (some entry) }
-{
-    WaitingLookup { found: true, entry }
-}
-
-// A look-up that found none.
-fn missing() -> WaitingLookup
-    ensures { result ≡ looked none }
-{
-    WaitingLookup {
-        found: false,
-        entry: WaitingEntry {
-            network_address: Nwk(0),
-            lqas: RingBuffer::new(),
-        },
-    }
-}
-
 // The samples of a sender.
-pub fn find(keys: &[u16], samples: &[u64], count: usize, nwk: Nwk) -> WaitingLookup
+pub fn find(keys: &[u16], samples: &[u64], count: usize, nwk: Nwk) -> Option<WaitingEntry>
     requires { Formed64 (in_columns keys.now samples.now count) }
-    ensures { result ≡ looked (lookup waiting_key nwk.0 (rows_of (in_columns keys.now samples.now count))) }
+    ensures { result ≡ lookup waiting_key nwk.0 (rows_of (in_columns keys.now samples.now count)) }
 {
     let place = place_of(keys, samples, count, nwk);
     match place {
-        Place::Found(i) => {
-            let e = entry_at(keys, samples, i);
-            found(e)
-        }
-        Place::Missing(_) => missing(),
+        Ok(i) => Some(entry_at(keys, samples, i)),
+        Err(_) => None,
     }
 }
 
@@ -131,7 +102,7 @@ pub fn put_at(
     keys: &mut [u16],
     samples: &mut [u64],
     count: usize,
-    place: Place,
+    place: Result<usize, usize>,
     e: WaitingEntry,
 ) -> usize
     requires { Formed64 (in_columns keys.old samples.old count) × (place ≡ place_of (take count keys.old) (waiting_key e)) × (count_with waiting_key (waiting_key e) (rows_of (in_columns keys.old samples.old count)) ≤ 64) }
@@ -141,13 +112,13 @@ pub fn put_at(
     let lqas = e.lqas;
     let w = lqas.word();
     match place {
-        Place::Found(i) => {
+        Ok(i) => {
             samples[i] = w;
             count
         }
-        Place::Missing(i) => {
-            columns::shift16(keys, i, e.network_address.0);
-            columns::shift64(samples, i, w);
+        Err(i) => {
+            columns::shift_in(keys, i, e.network_address.0);
+            columns::shift_in(samples, i, w);
             count + 1
         }
     }
@@ -158,13 +129,13 @@ fn out_at(keys: &mut [u16], samples: &mut [u64], i: usize)
     requires { (i < length keys.old) × (i < length samples.old) }
     ensures { (keys.new ≡ shift_out i 0 keys.old) × (samples.new ≡ shift_out i 0 samples.old) }
 {
-    columns::out16(keys, i);
-    columns::out64(samples, i);
+    columns::shift_out(keys, i, 0);
+    columns::shift_out(samples, i, 0);
 }
 
 // The samples in place i, those of a sender, taken out. How many senders there are after it.
 pub fn remove_at(keys: &mut [u16], samples: &mut [u64], count: usize, i: usize, nwk: Nwk) -> usize
-    requires { Formed64 (in_columns keys.old samples.old count) × (Found i ≡ place_of (take count keys.old) nwk.0) }
+    requires { Formed64 (in_columns keys.old samples.old count) × (Ok i ≡ place_of (take count keys.old) nwk.0) }
     ensures { Keeps (in_columns keys.new samples.new result)
         (remove waiting_key nwk.0 (rows_of (in_columns keys.old samples.old count))) }
 {
@@ -180,8 +151,8 @@ pub fn remove(keys: &mut [u16], samples: &mut [u64], count: usize, nwk: Nwk) -> 
 {
     let place = place_of(keys, samples, count, nwk);
     match place {
-        Place::Found(i) => remove_at(keys, samples, count, i, nwk),
-        Place::Missing(_) => count,
+        Ok(i) => remove_at(keys, samples, count, i, nwk),
+        Err(_) => count,
     }
 }
 

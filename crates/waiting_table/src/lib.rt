@@ -1,6 +1,9 @@
 // A row of the waiting table: a sender that is no neighbour yet, with the samples of its link.
 #![tactic(auto)]
 
+ghost use Rattle.std.specs.Prelude.{◌≡◌};
+ghost use Rattle.waiting_table.specs.Entry.{ring_in};
+
 use ring_buffer::RingBuffer;
 use types::Nwk;
 
@@ -11,9 +14,12 @@ pub struct WaitingEntry {
     pub lqas: RingBuffer,
 }
 
-// What stands under an address: the entry, or the blank one where there is none.
-#[derive(Drop)]
-pub struct WaitingLookup {
-    pub found: bool,
-    pub entry: WaitingEntry,
+// The samples that a look-up found, none where it found no sender.
+pub fn ring_in(found: Option<WaitingEntry>) -> RingBuffer
+    ensures { result ≡ ring_in found }
+{
+    match found {
+        Some(e) => e.lqas,
+        None => RingBuffer::new(),
+    }
 }

@@ -1,14 +1,12 @@
 -- Every word has its number, computed over the whole table; and worked calls.
 -- Assumes nothing.
+use Rattle.std.specs.Prelude.{Option, Some, None}
 use Prim.Native.Nat.{ℕ, ◌+◌}
 use Prim.Native.String.{String}
 use mathlib.Core.Bool.{Bool, true, false, ◌&&◌}
 use mathlib.Core.List.{List, [], ◌∷◌, replicate}
 use mathlib.Core.Path.{◌≡◌, refl}
 use lib.Dec.{eqb}
-use Rattle.words.specs.declared.Found.{Found}
-use Rattle.words.specs.declared.Found.TheVariants.{At, Nothing}
-use Rattle.words.specs.declared.Meaning.TheVariants.{Call, Bad}
 use Rattle.words.specs.Text.{bytes}
 use Rattle.words.specs.Table.{table, routing_words, neighbour_words, added, entry}
 use Rattle.words.specs.Shape.{most, most_of_others, within, passes, passes_mode, items, item, fit}
@@ -35,9 +33,9 @@ words =
     "set_neighbour_count" ∷ "set_waiting_count" ∷ "set_route_key" ∷ "set_discovery_key" ∷ "set_record_key" ∷
     "set_neighbour_key" ∷ "set_waiting_key" ∷ "set_store" ∷ "set_store_length" ∷ []
 
-unfoldable pub is_at : ℕ → Found → Bool
-is_at n (At m at) = eqb m n
-is_at n Nothing = false
+unfoldable pub is_at : ℕ → Option (ℕ × ℕ) → Bool
+is_at n (Some (m, at)) = eqb m n
+is_at n None = false
 
 -- each word of a list has the number of its place, counted from n
 unfoldable pub numbered : ℕ → List String → Bool
@@ -49,91 +47,91 @@ unfolding table routing_words neighbour_words added entry bytes past tried seek 
 all-numbered = refl
 
 -- an address is at most 65,535
-pub hop : called (bytes "next_hop") (65535 ∷ []) ≡ Call 15
+pub hop : called (bytes "next_hop") (65535 ∷ []) ≡ Some 15
 unfolding table routing_words neighbour_words added entry bytes past tried seek called_in most most_of_others within passes passes_mode items item fit
 hop = refl
 
-pub hop-too-large : called (bytes "next_hop") (65536 ∷ []) ≡ Bad
+pub hop-too-large : called (bytes "next_hop") (65536 ∷ []) ≡ None
 unfolding table routing_words neighbour_words added entry bytes past tried seek called_in most most_of_others within passes passes_mode items item fit
 hop-too-large = refl
 
 -- a missing number, and an extra one
-pub hop-missing : called (bytes "next_hop") ([]) ≡ Bad
+pub hop-missing : called (bytes "next_hop") ([]) ≡ None
 unfolding table routing_words neighbour_words added entry bytes past tried seek called_in most most_of_others within passes passes_mode items item fit
 hop-missing = refl
 
-pub hop-extra : called (bytes "next_hop") (1 ∷ 2 ∷ []) ≡ Bad
+pub hop-extra : called (bytes "next_hop") (1 ∷ 2 ∷ []) ≡ None
 unfolding table routing_words neighbour_words added entry bytes past tried seek called_in most most_of_others within passes passes_mode items item fit
 hop-extra = refl
 
 -- no word of the language, though a word begins so
-pub no_word : called (bytes "next") ([]) ≡ Bad
+pub no_word : called (bytes "next") ([]) ≡ None
 unfolding table routing_words neighbour_words added entry bytes past tried seek called_in most most_of_others within passes passes_mode items item fit
 no_word = refl
 
 -- both optional values, the second, none
-pub two-values : called (bytes "refresh_child_timeout") (1 ∷ 5 ∷ 1 ∷ 6 ∷ 7 ∷ []) ≡ Call 48
+pub two-values : called (bytes "refresh_child_timeout") (1 ∷ 5 ∷ 1 ∷ 6 ∷ 7 ∷ []) ≡ Some 48
 unfolding table routing_words neighbour_words added entry bytes past tried seek called_in most most_of_others within passes passes_mode items item fit
 two-values = refl
 
-pub second-value : called (bytes "refresh_child_timeout") (0 ∷ 1 ∷ 6 ∷ 7 ∷ []) ≡ Call 48
+pub second-value : called (bytes "refresh_child_timeout") (0 ∷ 1 ∷ 6 ∷ 7 ∷ []) ≡ Some 48
 unfolding table routing_words neighbour_words added entry bytes past tried seek called_in most most_of_others within passes passes_mode items item fit
 second-value = refl
 
-pub no_value : called (bytes "refresh_child_timeout") (0 ∷ 0 ∷ 7 ∷ []) ≡ Call 48
+pub no_value : called (bytes "refresh_child_timeout") (0 ∷ 0 ∷ 7 ∷ []) ≡ Some 48
 unfolding table routing_words neighbour_words added entry bytes past tried seek called_in most most_of_others within passes passes_mode items item fit
 no_value = refl
 
-pub not-optional : called (bytes "refresh_child_timeout") (2 ∷ 0 ∷ 7 ∷ []) ≡ Bad
+pub not-optional : called (bytes "refresh_child_timeout") (2 ∷ 0 ∷ 7 ∷ []) ≡ None
 unfolding table routing_words neighbour_words added entry bytes past tried seek called_in most most_of_others within passes passes_mode items item fit
 not-optional = refl
 
 -- a list with its count, and one with too few
-pub relays : called (bytes "put_record") (1 ∷ 2 ∷ 3 ∷ 4 ∷ []) ≡ Call 6
+pub relays : called (bytes "put_record") (1 ∷ 2 ∷ 3 ∷ 4 ∷ []) ≡ Some 6
 unfolding table routing_words neighbour_words added entry bytes past tried seek called_in most most_of_others within passes passes_mode items item fit
 relays = refl
 
-pub relays-missing : called (bytes "put_record") (1 ∷ 3 ∷ 3 ∷ 4 ∷ []) ≡ Bad
+pub relays-missing : called (bytes "put_record") (1 ∷ 3 ∷ 3 ∷ 4 ∷ []) ≡ None
 unfolding table routing_words neighbour_words added entry bytes past tried seek called_in most most_of_others within passes passes_mode items item fit
 relays-missing = refl
 
 -- 80 elements, and 81
-pub longest : called (bytes "remove_claimed_children") (80 ∷ replicate 80 1) ≡ Call 54
+pub longest : called (bytes "remove_claimed_children") (80 ∷ replicate 80 1) ≡ Some 54
 unfolding table routing_words neighbour_words added entry bytes past tried seek called_in most most_of_others within passes passes_mode items item fit
 longest = refl
 
-pub too_long : called (bytes "remove_claimed_children") (81 ∷ replicate 81 1) ≡ Bad
+pub too_long : called (bytes "remove_claimed_children") (81 ∷ replicate 81 1) ≡ None
 unfolding table routing_words neighbour_words added entry bytes past tried seek called_in most most_of_others within passes passes_mode items item fit
 too_long = refl
 
 -- triples: an address and two bytes
-pub triples : called (bytes "on_link_status") (1 ∷ 2 ∷ 3 ∷ 4 ∷ 0 ∷ 1 ∷ 9 ∷ 2 ∷ 65535 ∷ 255 ∷ 255 ∷ 7 ∷ 8 ∷ 9 ∷ []) ≡ Call 67
+pub triples : called (bytes "on_link_status") (1 ∷ 2 ∷ 3 ∷ 4 ∷ 0 ∷ 1 ∷ 9 ∷ 2 ∷ 65535 ∷ 255 ∷ 255 ∷ 7 ∷ 8 ∷ 9 ∷ []) ≡ Some 67
 unfolding table routing_words neighbour_words added entry bytes past tried seek called_in most most_of_others within passes passes_mode items item fit
 triples = refl
 
-pub triple-too-large : called (bytes "on_link_status") (1 ∷ 2 ∷ 3 ∷ 4 ∷ 0 ∷ 1 ∷ 9 ∷ 2 ∷ 65535 ∷ 255 ∷ 256 ∷ 7 ∷ 8 ∷ 9 ∷ []) ≡ Bad
+pub triple-too-large : called (bytes "on_link_status") (1 ∷ 2 ∷ 3 ∷ 4 ∷ 0 ∷ 1 ∷ 9 ∷ 2 ∷ 65535 ∷ 255 ∷ 256 ∷ 7 ∷ 8 ∷ 9 ∷ []) ≡ None
 unfolding table routing_words neighbour_words added entry bytes past tried seek called_in most most_of_others within passes passes_mode items item fit
 triple-too-large = refl
 
 -- a header with one extended address, in the modes with no number, with a hop and with a list
-pub direct : called (bytes "resolve_default") (0 ∷ 0 ∷ 2 ∷ 1 ∷ 0 ∷ 0 ∷ 0 ∷ 0 ∷ 0 ∷ 0 ∷ 0 ∷ 7 ∷ 8 ∷ 30 ∷ 1 ∷ 0 ∷ 1 ∷ 99 ∷ 0 ∷ 0 ∷ []) ≡ Call 70
+pub direct : called (bytes "resolve_default") (0 ∷ 0 ∷ 2 ∷ 1 ∷ 0 ∷ 0 ∷ 0 ∷ 0 ∷ 0 ∷ 0 ∷ 0 ∷ 7 ∷ 8 ∷ 30 ∷ 1 ∷ 0 ∷ 1 ∷ 99 ∷ 0 ∷ 0 ∷ []) ≡ Some 70
 unfolding table routing_words neighbour_words added entry bytes past tried seek called_in most most_of_others within passes passes_mode items item fit
 direct = refl
 
-pub by-hop : called (bytes "resolve_default") (4 ∷ 5 ∷ 0 ∷ 2 ∷ 1 ∷ 0 ∷ 0 ∷ 0 ∷ 0 ∷ 0 ∷ 0 ∷ 0 ∷ 7 ∷ 8 ∷ 30 ∷ 1 ∷ 0 ∷ 1 ∷ 99 ∷ 0 ∷ 0 ∷ []) ≡ Call 70
+pub by-hop : called (bytes "resolve_default") (4 ∷ 5 ∷ 0 ∷ 2 ∷ 1 ∷ 0 ∷ 0 ∷ 0 ∷ 0 ∷ 0 ∷ 0 ∷ 0 ∷ 7 ∷ 8 ∷ 30 ∷ 1 ∷ 0 ∷ 1 ∷ 99 ∷ 0 ∷ 0 ∷ []) ≡ Some 70
 unfolding table routing_words neighbour_words added entry bytes past tried seek called_in most most_of_others within passes passes_mode items item fit
 by-hop = refl
 
 -- and with a source route
-pub by-list : called (bytes "resolve_default") (3 ∷ 2 ∷ 5 ∷ 6 ∷ 0 ∷ 2 ∷ 1 ∷ 0 ∷ 0 ∷ 0 ∷ 0 ∷ 0 ∷ 0 ∷ 0 ∷ 7 ∷ 8 ∷ 30 ∷ 1 ∷ 0 ∷ 1 ∷ 99 ∷ 0 ∷ 1 ∷ 0 ∷ 1 ∷ 4 ∷ []) ≡ Call 70
+pub by-list : called (bytes "resolve_default") (3 ∷ 2 ∷ 5 ∷ 6 ∷ 0 ∷ 2 ∷ 1 ∷ 0 ∷ 0 ∷ 0 ∷ 0 ∷ 0 ∷ 0 ∷ 0 ∷ 7 ∷ 8 ∷ 30 ∷ 1 ∷ 0 ∷ 1 ∷ 99 ∷ 0 ∷ 1 ∷ 0 ∷ 1 ∷ 4 ∷ []) ≡ Some 70
 unfolding table routing_words neighbour_words added entry bytes past tried seek called_in most most_of_others within passes passes_mode items item fit
 by-list = refl
 
-pub no_mode : called (bytes "resolve_default") (6 ∷ 0 ∷ 2 ∷ 1 ∷ 0 ∷ 0 ∷ 0 ∷ 0 ∷ 0 ∷ 0 ∷ 0 ∷ 7 ∷ 8 ∷ 30 ∷ 1 ∷ 0 ∷ 1 ∷ 99 ∷ 0 ∷ 0 ∷ []) ≡ Bad
+pub no_mode : called (bytes "resolve_default") (6 ∷ 0 ∷ 2 ∷ 1 ∷ 0 ∷ 0 ∷ 0 ∷ 0 ∷ 0 ∷ 0 ∷ 0 ∷ 7 ∷ 8 ∷ 30 ∷ 1 ∷ 0 ∷ 1 ∷ 99 ∷ 0 ∷ 0 ∷ []) ≡ None
 unfolding table routing_words neighbour_words added entry bytes past tried seek called_in most most_of_others within passes passes_mode items item fit
 no_mode = refl
 
 -- there is no frame type 2
-pub no-frame : called (bytes "clear_end_device_initiator_for_relay") (2 ∷ 2 ∷ 1 ∷ 0 ∷ 0 ∷ 0 ∷ 0 ∷ 0 ∷ 0 ∷ 0 ∷ 7 ∷ 8 ∷ 30 ∷ 1 ∷ 0 ∷ 1 ∷ 99 ∷ 0 ∷ 0 ∷ []) ≡ Bad
+pub no-frame : called (bytes "clear_end_device_initiator_for_relay") (2 ∷ 2 ∷ 1 ∷ 0 ∷ 0 ∷ 0 ∷ 0 ∷ 0 ∷ 0 ∷ 0 ∷ 7 ∷ 8 ∷ 30 ∷ 1 ∷ 0 ∷ 1 ∷ 99 ∷ 0 ∷ 0 ∷ []) ≡ None
 unfolding table routing_words neighbour_words added entry bytes past tried seek called_in most most_of_others within passes passes_mode items item fit
 no-frame = refl

@@ -9,7 +9,6 @@ use lib.Dec.{eqb, leb}
 use lib.ListN.{length, drop, get_or, drop_of_length-le, length-drop}
 use lib.Seq.{drop-cons, drop-nil, drop-length}
 use native.Mathlib.Nat.{zero-add, suc-add}
-use native.Mathlib.Numerals.{add-one}
 use native.Mathlib.Omega.{arith}
 use borrow.Author.Tests.{lt-ltb, le-ltb, leb-true}
 use Rattle.flat_map.proofs.Compare.{below_or_not}
@@ -77,10 +76,6 @@ pub right-taken :
     → fit_from s r xs ≡ fit_from s w (x ∷ xs)
 unfolding fit_from fit
 right-taken s w r x xs z h y e = rw (e, ahead-drop s w.at (passes (get_or s w.at 0) x) h, z, drop-cons s w.at 0, y)
-
--- the numbers from a place on, one by one
-pub numbers-next : (s args : List ℕ) (w : Want) (i : ℕ) → i < length args → fit_from s w (get_or args i 0 ∷ drop (i + 1) args) ≡ fit_from s w (drop i args)
-numbers-next s args w i h = rw (add-one, drop-cons args i 0)
 
 pub numbers-end : (s args : List ℕ) (w : Want) (i : ℕ) → length args ≤ i → fit_from s w (drop i args) ≡ w.good && (eqb w.pending 0 && is_end (drop w.at s))
 unfolding fit_from fit

@@ -1,5 +1,6 @@
 -- One turn of each search of the table. Cases of the definitions at the next byte.
 -- Assumes nothing.
+use Rattle.std.specs.Prelude.{Some, None}
 use Prim.Native.Nat.{ℕ, suc, ◌+◌, ◌<◌, ◌≤◌}
 use mathlib.Core.Bool.{Bool, true, false}
 use mathlib.Core.List.{List, [], ◌∷◌}
@@ -10,7 +11,6 @@ use lib.Seq.{drop-cons}
 use native.Mathlib.Numerals.{add-one}
 use native.Mathlib.Omega.{arith}
 use borrow.Author.Tests.{eq-eqb, ne_eqb, lt-ltb}
-use Rattle.words.specs.declared.Found.TheVariants.{At, Nothing}
 use Rattle.words.specs.Words.{past, tried, counted, seek}
 
 module _ (text : List ℕ) (j : ℕ) where
@@ -29,9 +29,6 @@ module _ (text : List ℕ) (j : ℕ) where
   unfolding past
   past_next w i h k e = rw (add-one i, add-one j, drop-cons text j 0, drop-cons w i 0, eq-eqb _ _ e, add-one j)
 
-  pub past_all : (w : List ℕ) (i : ℕ) → length w ≤ i → past (drop i w) j (drop j text) ≡ past [] j (drop j text)
-  past_all w i h = rw (drop_of_length-le w {i = i} h)
-
   pub space-here : j < length text → get_or text j 0 ≡ 32 → past [] j (drop j text) ≡ j + 1
   unfolding past
   space-here h e = rw (drop-cons text j 0, eq-eqb _ _ e)
@@ -41,7 +38,7 @@ module _ (text : List ℕ) (j : ℕ) where
   no-space h n = rw (drop-cons text j 0, ne_eqb _ _ n)
 
 module _ (word : List ℕ) (n i : ℕ) (start : Bool) where
-  here : {p : ℕ} (t : List ℕ) (b : ℕ) (bs : List ℕ) → t ≡ b ∷ bs → p ≡ tried start word i t → 0 < p → seek word n start i t ≡ At n p
+  here : {p : ℕ} (t : List ℕ) (b : ℕ) (bs : List ℕ) → t ≡ b ∷ bs → p ≡ tried start word i t → 0 < p → seek word n start i t ≡ Some (n, p)
   unfolding seek
   here t b bs q e k = rw (e, q, lt-ltb 0 (tried start word i (b ∷ bs)) (rw q at (rw e at k)))
 
@@ -51,7 +48,7 @@ module _ (word : List ℕ) (n i : ℕ) (start : Bool) where
   unfolding seek
   on t b bs q e = rw (q, rw q at e)
 
-  pub seek-here : (text : List ℕ) {p : ℕ} → i < length text → p ≡ tried start word i (drop i text) → 0 < p → seek word n start i (drop i text) ≡ At n p
+  pub seek-here : (text : List ℕ) {p : ℕ} → i < length text → p ≡ tried start word i (drop i text) → 0 < p → seek word n start i (drop i text) ≡ Some (n, p)
   seek-here text h e k = here (drop i text) (get_or text i 0) (drop (suc i) text) (drop-cons text i 0 h) e k
 
   pub seek-on :
@@ -60,7 +57,7 @@ module _ (word : List ℕ) (n i : ℕ) (start : Bool) where
   seek-on text h e =
       on (drop i text) (get_or text i 0) (drop (i + 1) text) (drop-cons text i 0 h ∙ ap (λ (m : ℕ). get_or text i 0 ∷ drop m text) (sym (add-one i))) e
 
-  pub seek-end : (text : List ℕ) → length text ≤ i → seek word n start i (drop i text) ≡ Nothing
+  pub seek-end : (text : List ℕ) → length text ≤ i → seek word n start i (drop i text) ≡ None
   unfolding seek
   seek-end text h = rw (drop_of_length-le text {i = i} h)
 

@@ -1,11 +1,7 @@
 -- The number of a word: the place of its line in the table, and where the shape of its numbers begins.
 -- The page of the language: "`bad` for a line that is no call (unknown word, a missing or extra or too large number)".
 -- Assumes nothing.
-use Rattle.std.specs.Prelude.{ℕ, ◌+◌, Bool, true, cond, List, [], ◌∷◌, eqb, ltb, drop}
-use Rattle.words.specs.declared.Found.{Found}
-use Rattle.words.specs.declared.Found.TheVariants.{At, Nothing}
-use Rattle.words.specs.declared.Meaning.{Meaning}
-use Rattle.words.specs.declared.Meaning.TheVariants.{Call, Bad}
+use Rattle.std.specs.Prelude.{ℕ, ◌+◌, Bool, true, cond, List, [], ◌∷◌, eqb, ltb, drop, Option, Some, None}
 use Rattle.words.specs.Shape.{fits_shape}
 use Rattle.words.specs.Table.{table}
 
@@ -25,24 +21,24 @@ abbrev pub counted : ℕ → Bool → ℕ
 counted n is_end = cond is_end (n + 1) n
 
 -- the first line from here on that has the word, where n lines are passed
-unfoldable pub seek : List ℕ → ℕ → Bool → ℕ → List ℕ → Found
-seek word n is_start at [] = Nothing
+unfoldable pub seek : List ℕ → ℕ → Bool → ℕ → List ℕ → Option (ℕ × ℕ)
+seek word n is_start at [] = None
 seek word n is_start at (b ∷ bs) =
     cond (ltb 0 (tried is_start word at (b ∷ bs)))
-    (At n (tried is_start word at (b ∷ bs)))
+    (Some (n, tried is_start word at (b ∷ bs)))
     (seek word (counted n (eqb b 10)) (eqb b 10) (at + 1) bs)
 
 -- a word's line in the table
-abbrev pub word_number : List ℕ → Found
+abbrev pub word_number : List ℕ → Option (ℕ × ℕ)
 word_number word = seek word 0 true 0 table
 
 -- a word with numbers: the call's number, or bad for a word that is none and for numbers of another shape
-abbrev pub called_at : List ℕ → List ℕ → Found → Meaning
-called_at text args (At n at) = cond (fits_shape (drop at text) args) (Call n) Bad
-called_at text args Nothing = Bad
+abbrev pub called_at : List ℕ → List ℕ → Option (ℕ × ℕ) → Option ℕ
+called_at text args (Some (n, at)) = cond (fits_shape (drop at text) args) (Some n) None
+called_at text args None = None
 
-unfoldable pub called_in : List ℕ → List ℕ → List ℕ → Meaning
+unfoldable pub called_in : List ℕ → List ℕ → List ℕ → Option ℕ
 called_in text word args = called_at text args (seek word 0 true 0 text)
 
-abbrev pub called : List ℕ → List ℕ → Meaning
+abbrev pub called : List ℕ → List ℕ → Option ℕ
 called word args = called_in table word args

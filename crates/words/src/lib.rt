@@ -1,7 +1,7 @@
 // The table of the language's words: which call a word names, and whether numbers have the shape of that call's.
 #![tactic(auto)]
 
-ghost use Rattle.std.specs.Prelude.{◌≡◌, true, false, cond, List, [], ◌∷◌, ℕ, ◌+◌, ◌-◌, ◌<◌, drop};
+ghost use Rattle.std.specs.Prelude.{◌≡◌, true, false, List, [], ◌∷◌, ℕ, ◌+◌, ◌-◌, ◌<◌, drop};
 ghost use Rattle.words.specs.Shape.{is_option, is_list, most, most_of_others, within, passes, passes_mode, items, item, is_end, fits_shape};
 ghost use Rattle.words.specs.Words.{past, tried, counted, seek, called_in, called};
 ghost use Rattle.words.specs.Fitting.{fit_from, ahead};
@@ -98,20 +98,6 @@ set_store qa.
 set_store_length q.
 ";
 
-// Where a word stands in a table: its line, and the place of its shape.
-#[derive(Drop)]
-pub enum Found {
-    At(u64, usize),
-    Nothing,
-}
-
-// What a word with numbers is.
-#[derive(Drop)]
-pub enum Meaning {
-    Call(u64),
-    Bad,
-}
-
 // How far numbers have been compared with a shape: the next letter's place, and what is left of a list.
 #[derive(Drop)]
 struct Want {
@@ -125,16 +111,14 @@ struct Want {
 fn past(table: &[u8], at: usize, word: &[u8]) -> usize
     ensures { result ≡ past word.now at (drop at table.now) }
 {
-    let mut i: usize = 0;
     let mut j = at;
-    while i < word.len() {
+    for b in word {
         if table.len() <= j {
             return 0;
         }
-        if table[j] != word[i] {
+        if table[j] != *b {
             return 0;
         }
-        i += 1;
         j += 1;
     }
     ended(table, j)
@@ -169,22 +153,20 @@ fn counted(n: u64, over: bool) -> u64
 }
 
 // The line of a table that has a word.
-fn seek(table: &[u8], word: &[u8]) -> Found
+fn seek(table: &[u8], word: &[u8]) -> Option<(u64, usize)>
     ensures { result ≡ seek word.now 0 true 0 table.now }
 {
     let mut n: u64 = 0;
     let mut start = true;
-    let mut at: usize = 0;
-    while at < table.len() {
+    for (at, b) in table.iter().enumerate() {
         let place = tried(start, table, at, word);
         if 0 < place {
-            return Found::At(n, place);
+            return Some((n, place));
         }
-        start = table[at] == 10;
+        start = *b == 10;
         n = counted(n, start);
-        at += 1;
     }
-    Found::Nothing
+    None
 }
 
 fn is_option(l: u8) -> bool
@@ -382,33 +364,25 @@ fn fits(shape: &[u8], from: usize, args: &[u64]) -> bool
         kind: 0,
         pending: 0,
     };
-    let mut i: usize = 0;
-    while i < args.len() {
-        w = take(shape, w, args[i]);
-        i += 1;
+    for x in args {
+        w = take(shape, w, *x);
     }
     w.good & ((w.pending == 0) & is_end(shape, w.at))
 }
 
 // The call that a word with numbers is.
-fn called_in(table: &[u8], word: &[u8], args: &[u64]) -> Meaning
+fn called_in(table: &[u8], word: &[u8], args: &[u64]) -> Option<u64>
     ensures { result ≡ called_in table.now word.now args.now }
 {
     let found = seek(table, word);
     match found {
-        Found::At(n, at) => {
-            if fits(table, at, args) {
-                Meaning::Call(n)
-            } else {
-                Meaning::Bad
-            }
-        }
-        Found::Nothing => Meaning::Bad,
+        Some((n, at)) => { if fits(table, at, args) { Some(n) } else { None } }
+        None => None,
     }
 }
 
 // The call that a word with numbers is, by the table.
-pub fn called(word: &[u8], args: &[u64]) -> Meaning
+pub fn called(word: &[u8], args: &[u64]) -> Option<u64>
     ensures { result ≡ called word.now args.now }
 {
     called_in(&TABLE, word, args)

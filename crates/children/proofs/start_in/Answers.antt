@@ -1,9 +1,9 @@
--- The entry that was found, or the blank one with its address and the moment.
+-- The entry that was found, or one with nothing but its address and the moment.
 -- Assumes nothing.
 use Rattle.children.proofs.start_in.Goals as goal
 
-pub returns-then-found : goal.returns-then-found
-returns-then-found c = rw c.if-found.true
+pub returns-in-Some : goal.returns-in-Some
+returns-in-Some c = rw c.in-Some.is
 
-pub returns : goal.returns
-returns c = rw (c.if-found.false, c.missing-missing.ensures)
+pub returns-in-None : goal.returns-in-None
+returns-in-None c = rw (c.in-None.is, c.new.ensures)

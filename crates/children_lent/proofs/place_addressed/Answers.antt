@@ -6,8 +6,8 @@ use Rattle.children_lent.proofs.place_addressed.Goals as goal
 pub first16-requires : goal.first16-requires
 first16-requires c = (c.requires.0, omega (arith, c.requires.1))
 
-pub returns-in-Given : goal.returns-in-Given
-returns-in-Given c = addressed c.args.nwks.now c.args.count c.args.nwk _ _ c.in-Given.is c.first16.ensures
+pub returns-in-Some : goal.returns-in-Some
+returns-in-Some c = addressed c.args.nwks.now c.args.count c.args.nwk _ _ c.in-Some.is c.first16.ensures
 
-pub returns-in-Absent : goal.returns-in-Absent
-returns-in-Absent c = no_address c.args.nwks.now c.args.count c.args.nwk c.in-Absent.is
+pub returns-in-None : goal.returns-in-None
+returns-in-None c = no_address c.args.nwks.now c.args.count c.args.nwk c.in-None.is

@@ -6,11 +6,11 @@ use Rattle.children_lent.proofs.place_named.Goals as goal
 pub place_of-place-requires : goal.place_of-place-requires
 place_of-place-requires c = c.requires
 
-pub returns-in-Found : goal.returns-in-Found
-returns-in-Found c = named c.args.keys.now c.args.count c.args.eui64 _ _ c.in-Given.is c.requires.0 (sym c.in-Found.is ∙ c.place_of-place.ensures)
+pub returns-in-Ok : goal.returns-in-Ok
+returns-in-Ok c = named c.args.keys.now c.args.count c.args.eui64 _ _ c.in-Some.is c.requires.0 (sym c.in-Ok.is ∙ c.place_of-place.ensures)
 
-pub returns-in-Missing : goal.returns-in-Missing
-returns-in-Missing c = not_named c.args.keys.now c.args.count c.args.eui64 _ _ c.in-Given.is (sym c.in-Missing.is ∙ c.place_of-place.ensures)
+pub returns-in-Err : goal.returns-in-Err
+returns-in-Err c = not_named c.args.keys.now c.args.count c.args.eui64 _ _ c.in-Some.is (sym c.in-Err.is ∙ c.place_of-place.ensures)
 
-pub returns-in-Absent : goal.returns-in-Absent
-returns-in-Absent c = no_name c.args.keys.now c.args.count c.args.eui64 c.in-Absent.is
+pub returns-in-None : goal.returns-in-None
+returns-in-None c = no_name c.args.keys.now c.args.count c.args.eui64 c.in-None.is

@@ -1,6 +1,6 @@
 -- Where the device stands, its deadline and its link word are stored anew; where it is not known, or the sum is past the end, nothing is.
+use Rattle.std.specs.Prelude.{Option}
 use native.Mathlib.Omega.{arith}
-use mathlib.Core.Option.{Option}
 use mathlib.Core.Path.{sym, ap, ◌∙◌}
 use Rattle.neighbor_table.specs.declared.NeighborEntry.{NeighborEntry}
 use Rattle.neighbor_columns.specs.Table.{rows_of}
@@ -27,11 +27,11 @@ offset_bounds-links-i c = omega (arith, c.requires.small, c.requires.long.1.1.0,
 pub bounds-links-i : goal.bounds-links-i
 bounds-links-i c = omega (arith, c.requires.small, c.requires.long.1.1.0, c.if-count-i.false)
 
-pub offset_bounds-links-i-in-At : goal.offset_bounds-links-i-in-At
-offset_bounds-links-i-in-At c = omega (arith, c.requires.small, c.requires.long.1.1.0, c.if-count-i.false)
+pub offset_bounds-links-i-in-Some : goal.offset_bounds-links-i-in-Some
+offset_bounds-links-i-in-Some c = omega (arith, c.requires.small, c.requires.long.1.1.0, c.if-count-i.false)
 
-pub bounds-links-i-in-At : goal.bounds-links-i-in-At
-bounds-links-i-in-At c = omega (arith, c.requires.small, c.requires.long.1.1.0, c.if-count-i.false)
+pub bounds-links-i-in-Some : goal.bounds-links-i-in-Some
+bounds-links-i-in-Some c = omega (arith, c.requires.small, c.requires.long.1.1.0, c.if-count-i.false)
 
 pub offset_bounds-deadlines-i : goal.offset_bounds-deadlines-i
 offset_bounds-deadlines-i c = omega (arith, c.requires.small, c.requires.long.1.1.1.0, c.if-count-i.false)
@@ -39,8 +39,8 @@ offset_bounds-deadlines-i c = omega (arith, c.requires.small, c.requires.long.1.
 pub bounds-deadlines-i : goal.bounds-deadlines-i
 bounds-deadlines-i c = omega (arith, c.requires.small, c.requires.long.1.1.1.0, c.if-count-i.false)
 
-pub returns-in-At : goal.returns-in-At
-returns-in-At c = (λ t f. refresh-told (with_nwks c.args.nwks.now (lent_keys c.args.keys.now c.args.count (with_periods c.args.periods.now t))) _ _ c.args.now_ms _ (c.place_known-i.ensures.there (omega (arith, c.if-count-i.false)) (with_periods c.args.periods.now t) f) (sym c.in-At.is ∙ c.time_sum-sum.ensures), λ t w. refresh-held (with_nwks c.args.nwks.now (lent_keys c.args.keys.now c.args.count (with_links c.args.links.now (with_deadlines c.args.deadlines.now (with_periods c.args.periods.now t))))) w _ (omega (arith, c.if-count-i.false)) _ _ c.kept_link.ensures.0 c.kept_link.ensures.1 _ c.args.now_ms (c.place_known-i.ensures.there (omega (arith, c.if-count-i.false)) (with_links c.args.links.now (with_deadlines c.args.deadlines.now (with_periods c.args.periods.now t))) w.formed) (sym c.in-At.is ∙ c.time_sum-sum.ensures))
+pub returns-in-Some : goal.returns-in-Some
+returns-in-Some c = (λ t f. refresh-told (with_nwks c.args.nwks.now (lent_keys c.args.keys.now c.args.count (with_periods c.args.periods.now t))) _ _ c.args.now_ms _ (c.place_known-i.ensures.there (omega (arith, c.if-count-i.false)) (with_periods c.args.periods.now t) f) (sym c.in-Some.is ∙ c.time_sum-sum.ensures), λ t w. refresh-held (with_nwks c.args.nwks.now (lent_keys c.args.keys.now c.args.count (with_links c.args.links.now (with_deadlines c.args.deadlines.now (with_periods c.args.periods.now t))))) w _ (omega (arith, c.if-count-i.false)) _ _ c.kept_link.ensures.0 c.kept_link.ensures.1 _ c.args.now_ms (c.place_known-i.ensures.there (omega (arith, c.if-count-i.false)) (with_links c.args.links.now (with_deadlines c.args.deadlines.now (with_periods c.args.periods.now t))) w.formed) (sym c.in-Some.is ∙ c.time_sum-sum.ensures))
 
-pub returns-in-Past : goal.returns-in-Past
-returns-in-Past c = (λ t f. refresh-told (with_nwks c.args.nwks.now (lent_keys c.args.keys.now c.args.count (with_periods c.args.periods.now t))) _ _ c.args.now_ms _ (c.place_known-i.ensures.there (omega (arith, c.if-count-i.false)) (with_periods c.args.periods.now t) f) (sym c.in-Past.is ∙ c.time_sum-sum.ensures), λ t w. same-holds (with_nwks c.args.nwks.now (lent_keys c.args.keys.now c.args.count (with_links c.args.links.now (with_deadlines c.args.deadlines.now (with_periods c.args.periods.now t))))) w _ (refresh-rows (with_nwks c.args.nwks.now (lent_keys c.args.keys.now c.args.count (with_links c.args.links.now (with_deadlines c.args.deadlines.now (with_periods c.args.periods.now t))))) _ _ c.args.now_ms _ (c.place_known-i.ensures.there (omega (arith, c.if-count-i.false)) (with_links c.args.links.now (with_deadlines c.args.deadlines.now (with_periods c.args.periods.now t))) w.formed) (sym c.in-Past.is ∙ c.time_sum-sum.ensures) (rows_of (with_nwks c.args.nwks.now (lent_keys c.args.keys.now c.args.count (with_links c.args.links.now (with_deadlines c.args.deadlines.now (with_periods c.args.periods.now t))))))))
+pub returns-in-None : goal.returns-in-None
+returns-in-None c = (λ t f. refresh-told (with_nwks c.args.nwks.now (lent_keys c.args.keys.now c.args.count (with_periods c.args.periods.now t))) _ _ c.args.now_ms _ (c.place_known-i.ensures.there (omega (arith, c.if-count-i.false)) (with_periods c.args.periods.now t) f) (sym c.in-None.is ∙ c.time_sum-sum.ensures), λ t w. same-holds (with_nwks c.args.nwks.now (lent_keys c.args.keys.now c.args.count (with_links c.args.links.now (with_deadlines c.args.deadlines.now (with_periods c.args.periods.now t))))) w _ (refresh-rows (with_nwks c.args.nwks.now (lent_keys c.args.keys.now c.args.count (with_links c.args.links.now (with_deadlines c.args.deadlines.now (with_periods c.args.periods.now t))))) _ _ c.args.now_ms _ (c.place_known-i.ensures.there (omega (arith, c.if-count-i.false)) (with_links c.args.links.now (with_deadlines c.args.deadlines.now (with_periods c.args.periods.now t))) w.formed) (sym c.in-None.is ∙ c.time_sum-sum.ensures) (rows_of (with_nwks c.args.nwks.now (lent_keys c.args.keys.now c.args.count (with_links c.args.links.now (with_deadlines c.args.deadlines.now (with_periods c.args.periods.now t))))))))

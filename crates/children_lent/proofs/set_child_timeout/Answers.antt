@@ -1,7 +1,7 @@
 -- Where the child stands, its words, deadline and period are stored anew; where there is none, or the sum is past the end, nothing is.
+use Rattle.std.specs.Prelude.{Option, ℕ}
 use native.Mathlib.Omega.{arith}
 use mathlib.Core.Path.{sym, ap, ◌∙◌}
-use Rattle.types.specs.declared.Sum.{Sum}
 use Rattle.types.specs.Clock.{time_sum}
 use Rattle.neighbor_columns.specs.Table.{rows_of}
 use Rattle.neighbor_columns.specs.Lent.{with_nwks, with_links, with_counts, with_deadlines, with_periods, with_count}
@@ -25,11 +25,11 @@ offset_bounds-links-i c = omega (arith, c.requires.0.1.0, c.requires.1, c.if-cou
 pub bounds-links-i : goal.bounds-links-i
 bounds-links-i c = omega (arith, c.requires.0.1.0, c.requires.1, c.if-count-i.false)
 
-pub offset_bounds-links-i-in-At : goal.offset_bounds-links-i-in-At
-offset_bounds-links-i-in-At c = omega (arith, c.requires.0.1.0, c.requires.1, c.if-count-i.false)
+pub offset_bounds-links-i-in-Some : goal.offset_bounds-links-i-in-Some
+offset_bounds-links-i-in-Some c = omega (arith, c.requires.0.1.0, c.requires.1, c.if-count-i.false)
 
-pub bounds-links-i-in-At : goal.bounds-links-i-in-At
-bounds-links-i-in-At c = omega (arith, c.requires.0.1.0, c.requires.1, c.if-count-i.false)
+pub bounds-links-i-in-Some : goal.bounds-links-i-in-Some
+bounds-links-i-in-Some c = omega (arith, c.requires.0.1.0, c.requires.1, c.if-count-i.false)
 
 pub offset_bounds-counts-i : goal.offset_bounds-counts-i
 offset_bounds-counts-i c = omega (arith, c.requires.0.1.1.0, c.requires.1, c.if-count-i.false)
@@ -37,11 +37,11 @@ offset_bounds-counts-i c = omega (arith, c.requires.0.1.1.0, c.requires.1, c.if-
 pub bounds-counts-i : goal.bounds-counts-i
 bounds-counts-i c = omega (arith, c.requires.0.1.1.0, c.requires.1, c.if-count-i.false)
 
-pub offset_bounds-counts-i-in-At : goal.offset_bounds-counts-i-in-At
-offset_bounds-counts-i-in-At c = omega (arith, c.requires.0.1.1.0, c.requires.1, c.if-count-i.false)
+pub offset_bounds-counts-i-in-Some : goal.offset_bounds-counts-i-in-Some
+offset_bounds-counts-i-in-Some c = omega (arith, c.requires.0.1.1.0, c.requires.1, c.if-count-i.false)
 
-pub bounds-counts-i-in-At : goal.bounds-counts-i-in-At
-bounds-counts-i-in-At c = omega (arith, c.requires.0.1.1.0, c.requires.1, c.if-count-i.false)
+pub bounds-counts-i-in-Some : goal.bounds-counts-i-in-Some
+bounds-counts-i-in-Some c = omega (arith, c.requires.0.1.1.0, c.requires.1, c.if-count-i.false)
 
 pub offset_bounds-deadlines-i : goal.offset_bounds-deadlines-i
 offset_bounds-deadlines-i c = omega (arith, c.requires.0.1.1.1.0, c.requires.1, c.if-count-i.false)
@@ -55,8 +55,8 @@ offset_bounds-periods-i c = omega (arith, c.requires.0.1.1.1.1.0, c.requires.1, 
 pub bounds-periods-i : goal.bounds-periods-i
 bounds-periods-i c = omega (arith, c.requires.0.1.1.1.1.0, c.requires.1, c.if-count-i.false)
 
-pub returns-in-At : goal.returns-in-At
-returns-in-At c = (λ t f. set_told _ _ (c.place_of_child-i.ensures.there (omega (arith, c.if-count-i.false)) t f) _ _ (sym c.in-At.is ∙ c.time_sum-sum.ensures), λ t w. set-held (with_nwks c.args.nwks.now (with_links c.args.links.now (with_count c.args.count (with_counts c.args.counts.now (with_deadlines c.args.deadlines.now (with_periods c.args.periods.now t)))))) w _ (omega (arith, c.if-count-i.false)) c.args.nwk c.args.timeout c.args.configuration (c.place_of_child-i.ensures.there (omega (arith, c.if-count-i.false)) (with_counts c.args.counts.now (with_deadlines c.args.deadlines.now (with_periods c.args.periods.now t))) w.formed) _ _ _ c.kept_link.ensures.0 c.kept_link.ensures.1 c.configured_word.ensures _ (sym c.in-At.is ∙ c.time_sum-sum.ensures))
+pub returns-in-Some : goal.returns-in-Some
+returns-in-Some c = (λ t f. set_told _ _ (c.place_of_child-i.ensures.there (omega (arith, c.if-count-i.false)) t f) _ _ (sym c.in-Some.is ∙ c.time_sum-sum.ensures), λ t w. set-held (with_nwks c.args.nwks.now (with_links c.args.links.now (with_count c.args.count (with_counts c.args.counts.now (with_deadlines c.args.deadlines.now (with_periods c.args.periods.now t)))))) w _ (omega (arith, c.if-count-i.false)) c.args.nwk c.args.timeout c.args.configuration (c.place_of_child-i.ensures.there (omega (arith, c.if-count-i.false)) (with_counts c.args.counts.now (with_deadlines c.args.deadlines.now (with_periods c.args.periods.now t))) w.formed) _ _ _ c.kept_link.ensures.0 c.kept_link.ensures.1 c.configured_word.ensures _ (sym c.in-Some.is ∙ c.time_sum-sum.ensures))
 
-pub returns-in-Past : goal.returns-in-Past
-returns-in-Past c = (λ t f. set_told _ _ (c.place_of_child-i.ensures.there (omega (arith, c.if-count-i.false)) t f) _ _ (sym c.in-Past.is ∙ c.time_sum-sum.ensures), λ t w. same-holds (with_nwks c.args.nwks.now (with_links c.args.links.now (with_count c.args.count (with_counts c.args.counts.now (with_deadlines c.args.deadlines.now (with_periods c.args.periods.now t)))))) w _ (ap (λ (s : Sum). retimed c.args.nwk c.args.timeout c.args.configuration s (rows_of (with_nwks c.args.nwks.now (with_links c.args.links.now (with_count c.args.count (with_counts c.args.counts.now (with_deadlines c.args.deadlines.now (with_periods c.args.periods.now t)))))))) (sym c.in-Past.is ∙ c.time_sum-sum.ensures)))
+pub returns-in-None : goal.returns-in-None
+returns-in-None c = (λ t f. set_told _ _ (c.place_of_child-i.ensures.there (omega (arith, c.if-count-i.false)) t f) _ _ (sym c.in-None.is ∙ c.time_sum-sum.ensures), λ t w. same-holds (with_nwks c.args.nwks.now (with_links c.args.links.now (with_count c.args.count (with_counts c.args.counts.now (with_deadlines c.args.deadlines.now (with_periods c.args.periods.now t)))))) w _ (ap (λ (s : Option ℕ). retimed c.args.nwk c.args.timeout c.args.configuration s (rows_of (with_nwks c.args.nwks.now (with_links c.args.links.now (with_count c.args.count (with_counts c.args.counts.now (with_deadlines c.args.deadlines.now (with_periods c.args.periods.now t)))))))) (sym c.in-None.is ∙ c.time_sum-sum.ensures)))

@@ -7,8 +7,8 @@ use Rattle.children_moves_lent.proofs.upsert_child.Goals as goal
 pub place-requires : goal.place-requires
 place-requires c = c.requires
 
-pub returns-in-At : goal.returns-in-At
-returns-in-At c = let a = c.args in let t = in_columns a.keys.now a.nwks.now a.links.now a.counts.now a.deadlines.now a.periods.now a.heard.now a.added.now a.beacons.now a.bytes.now a.count in as-summed t a.child a.now_ms _ _ (sym c.in-At.is ∙ c.time_sum-sum.ensures) _ _ c.place.ensures
+pub returns-in-Some : goal.returns-in-Some
+returns-in-Some c = let a = c.args in let t = in_columns a.keys.now a.nwks.now a.links.now a.counts.now a.deadlines.now a.periods.now a.heard.now a.added.now a.beacons.now a.bytes.now a.count in as-summed t a.child a.now_ms _ _ (sym c.in-Some.is ∙ c.time_sum-sum.ensures) _ _ c.place.ensures
 
-pub returns-in-Past : goal.returns-in-Past
-returns-in-Past c = let a = c.args in let t = in_columns a.keys.now a.nwks.now a.links.now a.counts.now a.deadlines.now a.periods.now a.heard.now a.added.now a.beacons.now a.bytes.now a.count in past_end t c.requires a.child a.now_ms _ (sym c.in-Past.is ∙ c.time_sum-sum.ensures)
+pub returns-in-None : goal.returns-in-None
+returns-in-None c = let a = c.args in let t = in_columns a.keys.now a.nwks.now a.links.now a.counts.now a.deadlines.now a.periods.now a.heard.now a.added.now a.beacons.now a.bytes.now a.count in past_end t c.requires a.child a.now_ms _ (sym c.in-None.is ∙ c.time_sum-sum.ensures)

@@ -1,6 +1,4 @@
 -- The first of the rows that are left that fits is the first of all rows, since none of those passed fits.
--- The measure is the rows left.
-use Prim.Native.Nat.{◌-◌}
 use mathlib.Core.Path.{◌≡◌}
 use lib.ListN.{drop}
 use Rattle.standard.specs.Discovery.{awaits}
@@ -10,6 +8,3 @@ use Rattle.discovery_table.proofs.discovery_deadline.Given as goal
 
 abbrev pub invariant-loop-i : goal.invariant-loop-i
 invariant-loop-i l = first (awaits l.destination.0 l.now_ms) (drop l.i (rows_of (in_columns l.keys l.words l.ends l.count))) ≡ first (awaits l.destination.0 l.now_ms) (rows_of (in_columns l.keys l.words l.ends l.count))
-
-abbrev pub decreases-loop-i : goal.decreases-loop-i
-decreases-loop-i l = l.count - l.i

@@ -1,7 +1,5 @@
 -- At each turn the rest of the sweep, done now, gives the discoveries that are live.
 -- The measure is the rows not passed, which a removal lessens too.
-use Prim.Native.Nat.{◌-◌}
-use mathlib.Core.Path.{sym, ◌∙◌}
 use Rattle.discovery_table.proofs.Swept.{begun, kept, taken, ended}
 use native.Mathlib.Omega.{arith}
 use Rattle.discovery_table.proofs.keep_live.Goals as goal
@@ -9,31 +7,14 @@ use Rattle.discovery_table.proofs.keep_live.Goals as goal
 pub loop-i-init : goal.loop-i-init
 loop-i-init c = begun _ _ _ _ _ c.requires
 
-pub bounds-ends-i : goal.bounds-ends-i
-bounds-ends-i c = let o = c.loop-i.invariant.sound.ordered in omega (arith, o.small, o.long.1.1.0)
-
 pub loop-i-preserved-then-now_ms-ends : goal.loop-i-preserved-then-now_ms-ends
 loop-i-preserved-then-now_ms-ends c = let v = c.loop-i in kept _ v.keys v.words v.ends v.n _ v.i v.invariant (omega arith) c.if-now_ms-ends.true
-
-pub remove_at-requires : goal.remove_at-requires
-remove_at-requires c =
-    let o = c.loop-i.invariant.sound.ordered in
-    (omega (arith, o.small, o.long.0), omega (arith, o.small, o.long.1.0), omega (arith, o.small, o.long.1.1.0))
 
 pub loop-i-preserved : goal.loop-i-preserved
 loop-i-preserved c =
     let v = c.loop-i in
     let e = c.remove_at.ensures in
     taken _ v.keys v.words v.ends v.n _ v.i v.invariant (omega arith) c.if-now_ms-ends.false _ _ _ e.0 e.1 e.2
-
-pub shape_of-keys : goal.shape_of-keys
-shape_of-keys c = c.loop-i.invariant.sound.ordered.long.0 ∙ sym c.requires.ordered.long.0
-
-pub shape_of-words : goal.shape_of-words
-shape_of-words c = c.loop-i.invariant.sound.ordered.long.1.0 ∙ sym c.requires.ordered.long.1.0
-
-pub shape_of-ends : goal.shape_of-ends
-shape_of-ends c = c.loop-i.invariant.sound.ordered.long.1.1.0 ∙ sym c.requires.ordered.long.1.1.0
 
 pub returns : goal.returns
 returns c = let v = c.loop-i in ended _ v.keys v.words v.ends v.n _ v.i v.invariant (omega arith)

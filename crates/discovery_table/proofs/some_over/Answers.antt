@@ -1,22 +1,7 @@
 -- The answer so far, or the answer over the rows left, is the answer over all rows.
--- The measure is the rows left.
-use Prim.Native.Nat.{◌-◌}
-use mathlib.Core.Path.{refl}
 use Rattle.discovery_table.specs.Table.{in_columns}
 use Rattle.discovery_table.proofs.Asked.{asked-more, asked-all, over-is}
-use native.Mathlib.Omega.{arith}
 use Rattle.discovery_table.proofs.some_over.Goals as goal
-
-pub loop-i-init : goal.loop-i-init
-loop-i-init c = refl
-
-pub offset_bounds-ends-i : goal.offset_bounds-ends-i
-offset_bounds-ends-i c =
-    omega (arith, c.requires.ordered.small, c.requires.ordered.long.1.1.0)
-
-pub bounds-ends-i : goal.bounds-ends-i
-bounds-ends-i c =
-    omega (arith, c.requires.ordered.small, c.requires.ordered.long.1.1.0)
 
 pub loop-i-preserved : goal.loop-i-preserved
 loop-i-preserved c =

@@ -36,5 +36,5 @@ returns c =
     let told = well-formed-told (in_columns a.keys.now a.words.now a.ends.now a.count) in
     tells-one
     (columns-told a.keys.now a.words.now a.ends.now a.count (c.if-keys-ne32.false, (c.if-words-ne32.false, (c.if-ends-ne32.false, tt))) c.if-count-gt32.false
-    c.rising32-up.ensures c.zero_from32-no_keys.ensures c.zero_from64-no_words.ensures c.zero_from64-no_ends.ensures c.under32-pairs.ensures c.under64-small.ensures)
+    c.rising-up.ensures c.zero_from-no_keys.ensures c.zero_from-no_words.ensures c.zero_from-no_ends.ensures c.under-pairs.ensures c.under-small.ensures)
     told

@@ -3,8 +3,8 @@ use mathlib.Core.Path.{sym, ap}
 use Rattle.door.specs.Places.{update_places}
 use Rattle.door.proofs.update_places.Goals as goal
 
-pub returns-in-Same : goal.returns-in-Same
-returns-in-Same c = ap update_places (sym c.in-Same.is)
+pub returns-in-None : goal.returns-in-None
+returns-in-None c = ap update_places (sym c.in-None.is)
 
-pub returns-in-Changed : goal.returns-in-Changed
-returns-in-Changed c = ap update_places (sym c.in-Changed.is)
+pub returns-in-Some : goal.returns-in-Some
+returns-in-Some c = ap update_places (sym c.in-Some.is)

@@ -1,6 +1,5 @@
 -- At each turn the list holds the numbers passed as extended addresses, blank after them; at the end it holds those that have a place.
--- The measure is the numbers left.
-use Prim.Native.Nat.{◌≤◌, ◌-◌}
+use Prim.Native.Nat.{◌≤◌}
 use mathlib.Core.List.{map}
 use mathlib.Core.Path.{◌≡◌}
 use lib.ListN.{length, take}
@@ -10,7 +9,4 @@ use Rattle.door_lists.specs.Lists.{name}
 use Rattle.door_lists.proofs.names_given.Given as goal
 
 abbrev pub invariant-loop-i : goal.invariant-loop-i
-invariant-loop-i l = (l.i ≤ l.n) × (l.n ≤ 64) × (l.n ≤ length l.numbers) × (l.l.addresses ≡ pad 64 no_name (map name (take l.i l.numbers)))
-
-abbrev pub decreases-loop-i : goal.decreases-loop-i
-decreases-loop-i l = l.n - l.i
+invariant-loop-i l = (l.n ≤ 64) × (l.n ≤ length l.numbers) × (l.l.addresses ≡ pad 64 no_name (map name (take l.i l.numbers)))

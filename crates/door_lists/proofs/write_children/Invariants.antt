@@ -1,14 +1,9 @@
--- At each turn the places passed are written; at the end all of them are. The measure is the places left.
-use Prim.Native.Nat.{◌≤◌, ◌-◌}
+-- At each turn the places passed are written; at the end all of them are.
 use Rattle.door_lists.specs.Lists.{child_name, child_address}
 use Rattle.door_lists.proofs.Written.{Written}
 use Rattle.door_lists.proofs.write_children.Given as goal
 
 abbrev pub invariant-loop-i : goal.invariant-loop-i
 invariant-loop-i l =
-    (l.i ≤ 64)
-    × Written child_name l.list.children l.i l.eui64s
+    Written child_name l.list.children l.i l.eui64s
     × Written child_address l.list.children l.i l.addresses
-
-abbrev pub decreases-loop-i : goal.decreases-loop-i
-decreases-loop-i l = 64 - l.i

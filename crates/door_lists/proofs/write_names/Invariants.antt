@@ -1,11 +1,7 @@
--- At each turn the places passed are written; at the end all of them are. The measure is the places left.
-use Prim.Native.Nat.{◌≤◌, ◌-◌}
+-- At each turn the places passed are written; at the end all of them are.
 use Rattle.door_lists.specs.Lists.{name_number}
 use Rattle.door_lists.proofs.Written.{Written}
 use Rattle.door_lists.proofs.write_names.Given as goal
 
 abbrev pub invariant-loop-i : goal.invariant-loop-i
-invariant-loop-i l = (l.i ≤ 64) × Written name_number l.list.addresses l.i l.eui64s
-
-abbrev pub decreases-loop-i : goal.decreases-loop-i
-decreases-loop-i l = 64 - l.i
+invariant-loop-i l = Written name_number l.list.addresses l.i l.eui64s

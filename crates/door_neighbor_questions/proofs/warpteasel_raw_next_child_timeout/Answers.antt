@@ -1,8 +1,9 @@
 -- Columns that are not well formed are refused; of any others the answer of the columns is said.
+use Rattle.std.specs.Prelude.{Option, Ok}
+use Prim.Native.Nat.{ℕ}
 use mathlib.Core.Path.{refl, ap}
 use borrow.Author.Tests.{not-true, not-false}
 use Rattle.neighbor_queries_lent.proofs.Ready.{deadlines-in-use}
-use Rattle.neighbor_queries.specs.Answers.{moment_in}
 use Rattle.neighbors.specs.State.{well_formed}
 use Rattle.neighbors.specs.Queries.{next_child_timeout}
 use Rattle.door.proofs.Lent.{says-as, ill-asked, rule-asked}
@@ -22,4 +23,4 @@ unfolding next_child_timeout
 returns c =
     let e = c.columns_formed.ensures in
     let p = not-false _ c.if-not-columns_formed.false-raw in
-    rule-asked well_formed _ _ (test_of _ _ _ e p) (λ _. says-as (ap moment_in (c.next_child_timeout-next.ensures (table_of _ _ _ e) (formed-in _ _ _ e p).table.formed)) c.say_moment.ensures)
+    rule-asked well_formed _ _ (test_of _ _ _ e p) (λ _. says-as (ap (λ (o : Option ℕ). Ok o) (c.next_child_timeout-next.ensures (table_of _ _ _ e) (formed-in _ _ _ e p).table.formed)) c.say_moment.ensures)

@@ -1,9 +1,10 @@
 -- By whether one was found.
-use borrow.Author.Tests.{not-true, not-false}
+use mathlib.Core.Path.{sym, ap, ◌∙◌}
+use Rattle.door_neighbor_rows.specs.Rows.{neighbor_places}
 use Rattle.door_neighbor_rows.proofs.neighbor_places.Goals as goal
 
-pub returns-then-not-x : goal.returns-then-not-x
-returns-then-not-x c = rw (not-true c.args.x.found c.if-not-x.true) c.no_places.ensures
+pub returns-in-Some : goal.returns-in-Some
+returns-in-Some c = c.entry_places.ensures ∙ ap neighbor_places (sym c.in-Some.is)
 
-pub returns : goal.returns
-returns c = rw (not-false c.args.x.found c.if-not-x.false) c.entry_places.ensures
+pub returns-in-None : goal.returns-in-None
+returns-in-None c = c.no_places.ensures ∙ ap neighbor_places (sym c.in-None.is)

@@ -1,13 +1,19 @@
 -- Case by case, as the definition goes.
-use mathlib.Core.Path.{refl, sym}
+use Rattle.std.specs.Prelude.{Ok, Some, None}
+use mathlib.Core.Path.{◌≡◌, refl, sym}
+use borrow.Author.Rules.{rules}
 use Rattle.door.proofs.Lent.{says-as}
 use Rattle.door_neighbors.proofs.say_name.Goals as goal
 
-pub returns-in-Is : goal.returns-in-Is
-returns-in-Is c = says-as (sym c.in-Is.is) (record { status = refl; places = refl })
+pub returns-in-Ok-Some : goal.returns-in-Ok-Some
+returns-in-Ok-Some c =
+    let e : Ok (Some c.in-Ok-Some.x) ≡ c.args.answer = search rules in
+    says-as e (record { status = refl; places = refl })
 
-pub returns-in-Nothing : goal.returns-in-Nothing
-returns-in-Nothing c = says-as (sym c.in-Nothing.is) (record { status = refl; places = refl })
+pub returns-in-Ok-None : goal.returns-in-Ok-None
+returns-in-Ok-None c =
+    let e : Ok None ≡ c.args.answer = search rules in
+    says-as e (record { status = refl; places = refl })
 
-pub returns-in-Refused : goal.returns-in-Refused
-returns-in-Refused c = says-as (sym c.in-Refused.is) (record { status = c.number.ensures; places = refl })
+pub returns-in-Err : goal.returns-in-Err
+returns-in-Err c = says-as (sym c.in-Err.is) (record { status = c.number.ensures; places = refl })

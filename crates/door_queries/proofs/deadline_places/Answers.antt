@@ -6,5 +6,5 @@ use Rattle.door_queries.proofs.deadline_places.Goals as goal
 pub returns-in-None : goal.returns-in-None
 returns-in-None c = ap deadline_places (sym c.in-None.is)
 
-pub returns-in-At : goal.returns-in-At
-returns-in-At c = ap deadline_places (sym c.in-At.is)
+pub returns-in-Some : goal.returns-in-Some
+returns-in-Some c = ap deadline_places (sym c.in-Some.is)

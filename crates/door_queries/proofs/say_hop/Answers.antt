@@ -1,14 +1,19 @@
 -- The hop's answer decides, as the definition goes.
-use mathlib.Core.Path.{refl, sym, ap}
-use Rattle.routing.specs.Queries.{hop_outcome}
+use Rattle.std.specs.Prelude.{Ok, Some, None}
+use mathlib.Core.Path.{◌≡◌, refl, sym}
+use borrow.Author.Rules.{rules}
 use Rattle.door.proofs.Lent.{says-as}
 use Rattle.door_queries.proofs.say_hop.Goals as goal
 
-pub returns-in-NoRoute : goal.returns-in-NoRoute
-returns-in-NoRoute c = says-as (ap hop_outcome (sym c.in-NoRoute.is)) (record { status = refl; places = refl })
+pub returns-in-Ok-None : goal.returns-in-Ok-None
+returns-in-Ok-None c =
+    let e : Ok None ≡ c.args.hop = search rules in
+    says-as e (record { status = refl; places = refl })
 
-pub returns-in-Hop : goal.returns-in-Hop
-returns-in-Hop c = says-as (ap hop_outcome (sym c.in-Hop.is)) (record { status = refl; places = refl })
+pub returns-in-Ok-Some : goal.returns-in-Ok-Some
+returns-in-Ok-Some c =
+    let e : Ok (Some c.in-Ok-Some.n) ≡ c.args.hop = search rules in
+    says-as e (record { status = refl; places = refl })
 
-pub returns-in-Unknown : goal.returns-in-Unknown
-returns-in-Unknown c = says-as (ap hop_outcome (sym c.in-Unknown.is)) (record { status = refl; places = refl })
+pub returns-in-Err : goal.returns-in-Err
+returns-in-Err c = says-as (sym c.in-Err.is) (record { status = c.number.ensures; places = refl })

@@ -1,7 +1,7 @@
 -- Columns that are not well formed are refused; of any others the route table's hop is the answer.
-use mathlib.Core.Path.{refl, ap}
+use mathlib.Core.Path.{refl}
 use borrow.Author.Tests.{not-true, not-false}
-use Rattle.routing.specs.Queries.{hop_outcome, next_hop_of}
+use Rattle.routing.specs.Queries.{next_hop_of}
 use Rattle.routing.specs.State.{well_formed}
 use Rattle.door.proofs.Lent.{test_of, formed-in, says-as, ill-asked, rule-asked}
 use Rattle.door_queries.proofs.warpteasel_raw_next_hop.Goals as goal
@@ -15,4 +15,4 @@ next_hop-hop-requires c = (formed-in _ _ _ _ c.columns_formed.ensures (not-false
 
 pub returns : goal.returns
 unfolding next_hop_of
-returns c = rule-asked well_formed _ _ (test_of _ _ _ (λ _. c.columns_formed.ensures) (not-false _ c.if-not-columns_formed.false-raw)) (λ _. says-as (ap hop_outcome c.next_hop-hop.ensures) c.say_hop.ensures)
+returns c = rule-asked well_formed _ _ (test_of _ _ _ (λ _. c.columns_formed.ensures) (not-false _ c.if-not-columns_formed.false-raw)) (λ _. says-as c.next_hop-hop.ensures c.say_hop.ensures)

@@ -1,6 +1,4 @@
 -- At each turn the list holds the numbers passed as addresses, blank after them; at the end it holds all of them.
--- The measure is the numbers left.
-use Prim.Native.Nat.{◌-◌}
 use mathlib.Core.List.{map}
 use mathlib.Core.Path.{◌≡◌, sym, ap, ◌∙◌}
 use lib.ListN.{length, take, get_or, set, length-map}
@@ -9,19 +7,18 @@ use Rattle.standard.specs.Route.{nwk}
 use Rattle.flat_map.specs.Rows.{pad}
 use Rattle.relay_store.specs.Store.{relay_list}
 use Rattle.relay_store.proofs.Cells.{pad-next}
-use borrow.Author.Rules.{rules}
 use native.Mathlib.Omega.{arith}
 use Rattle.door_records.proofs.relays_given.Goals as goal
 
 pub loop-i-init : goal.loop-i-init
 unfolding relay_list
-loop-i-init c = (search rules, ap (λ z. z.addresses) c.no_relays-l.ensures)
+loop-i-init c = ap (λ z. z.addresses) c.no_relays-l.ensures
 
 pub loop-i-preserved : goal.loop-i-preserved
 loop-i-preserved c =
     let v = c.loop-i in
     let row = c.args.relays.now in
-    (search rules, ap (λ a. set a v.i (nwk (get_or row v.i 0))) v.invariant.1 ∙ pad-next nwk 32 v.i (nwk 0) 0 row (omega arith) (omega arith))
+    ap (λ a. set a v.i (nwk (get_or row v.i 0))) v.invariant ∙ pad-next nwk 32 v.i (nwk 0) 0 row (omega arith) (omega arith)
 
 pub returns : goal.returns
 unfolding relay_list
@@ -29,4 +26,4 @@ returns c =
     let v = c.loop-i in
     let row = c.args.relays.now in
     let n : v.i ≡ length row = omega arith in
-    λ z. record { count = sym (length-map row nwk) z; addresses = (v.invariant.1 ∙ ap (λ k. pad 32 (nwk 0) (map nwk (take k row))) n ∙ ap (λ xs. pad 32 (nwk 0) (map nwk xs)) (take_all (length row) row (omega arith))) z }
+    λ z. record { count = sym (length-map row nwk) z; addresses = (v.invariant ∙ ap (λ k. pad 32 (nwk 0) (map nwk (take k row))) n ∙ ap (λ xs. pad 32 (nwk 0) (map nwk xs)) (take_all (length row) row (omega arith))) z }

@@ -1,15 +1,10 @@
 -- At each turn the list holds the numbers passed as addresses, blank after them; at the end it holds all of them.
--- The measure is the numbers left.
-use Prim.Native.Nat.{◌≤◌, ◌-◌}
 use mathlib.Core.List.{map}
 use mathlib.Core.Path.{◌≡◌}
-use lib.ListN.{length, take}
+use lib.ListN.{take}
 use Rattle.standard.specs.Route.{nwk}
 use Rattle.flat_map.specs.Rows.{pad}
 use Rattle.door_records.proofs.relays_given.Given as goal
 
 abbrev pub invariant-loop-i : goal.invariant-loop-i
-invariant-loop-i l = (l.i ≤ length l.relays) × (l.l.addresses ≡ pad 32 (nwk 0) (map nwk (take l.i l.relays)))
-
-abbrev pub decreases-loop-i : goal.decreases-loop-i
-decreases-loop-i l = length l.relays - l.i
+invariant-loop-i l = l.l.addresses ≡ pad 32 (nwk 0) (map nwk (take l.i l.relays))

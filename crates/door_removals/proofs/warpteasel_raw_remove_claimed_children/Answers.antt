@@ -8,7 +8,7 @@ use Rattle.neighbors.specs.State.{rows}
 use Rattle.neighbor_calls.specs.Announcements.{remove_claimed_children}
 use Rattle.door.proofs.Lent.{says-as}
 use Rattle.door_neighbors.proofs.Lent.{formed-in}
-use Rattle.door_lists.specs.Answers.{children}
+use Rattle.neighbor_queries.specs.Answers.{with_list}
 use Rattle.door_lists.specs.Lists.{given}
 use Rattle.door_lists.proofs.Made.{no_room, left, made, same-long}
 use Rattle.door_removals.proofs.warpteasel_raw_remove_claimed_children.Goals as goal
@@ -94,4 +94,4 @@ unfolding remove_claimed_children
 returns c =
     let x = rw c.names_given-list.ensures at c.remove_claimed_children-x.ensures in
     made _ _ _ c.columns_formed.ensures _ (c.if-eui64s-ne64.false, c.if-addresses-ne64.false) (λ s. (settled_by false (given c.args.claims.now) (rows s)).rows) (λ _. refl) (not-false _ c.if-not-columns_formed.false-raw) _ x.2 _ _
-    (says-as (λ z. children (x.0 z) (x.1 z)) c.say_children.ensures)
+    (says-as (λ z. with_list (x.0 z) (x.1 z)) c.say_children.ensures)

@@ -3,8 +3,8 @@ use mathlib.Core.Path.{sym, ap}
 use Rattle.door_rows.specs.Rows.{discovery_places}
 use Rattle.door_rows.proofs.discovery_places.Goals as goal
 
-pub returns-in-Missing : goal.returns-in-Missing
-returns-in-Missing c = ap discovery_places (sym c.in-Missing.is)
+pub returns-in-None : goal.returns-in-None
+returns-in-None c = ap discovery_places (sym c.in-None.is)
 
-pub returns-in-Found : goal.returns-in-Found
-returns-in-Found c = ap discovery_places (sym c.in-Found.is)
+pub returns-in-Some : goal.returns-in-Some
+returns-in-Some c = ap discovery_places (sym c.in-Some.is)

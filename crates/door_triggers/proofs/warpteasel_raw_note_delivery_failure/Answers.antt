@@ -14,4 +14,4 @@ returns-then-not-columns_formed c = ill-made well_formed _ _ (test_of _ _ _ (λ 
 
 pub returns : goal.returns
 unfolding note_delivery_failure
-returns c = rule-made well_formed _ _ (test_of _ _ _ (λ _. c.columns_formed.ensures) (not-false _ c.if-not-columns_formed.false-raw)) (λ _. failures-left _ _ _ _ _ _ _ c.saturating_add_u8-count.ensures) (λ _. record { status = refl; places = c.flag.ensures ∙ ap (λ n. flag_number (fires_at n c.args.threshold)) c.saturating_add_u8-count.ensures })
+returns c = rule-made well_formed _ _ (test_of _ _ _ (λ _. c.columns_formed.ensures) (not-false _ c.if-not-columns_formed.false-raw)) (λ _. failures-left _ _ _ _ _ _ _ c.saturating_add-count.ensures) (λ _. record { status = refl; places = c.flag.ensures ∙ ap (λ n. flag_number (fires_at n c.args.threshold)) c.saturating_add-count.ensures })

@@ -1,10 +1,11 @@
 -- Places for relays that are not 32 are no call. Columns that are not well formed and a store that disagrees are refused; of any others the
 -- record at the place is said.
+use Rattle.std.specs.Prelude.{Ok}
 use mathlib.Core.Path.{refl, sym, ap, ◌∙◌}
 use borrow.Author.Tests.{not-true, not-false}
 use Rattle.relay_store.proofs.Agree.{agrees-told}
 use Rattle.route_record.specs.declared.RecordRow.{RecordRow}
-use Rattle.routing.specs.Records.{record_here, record_at}
+use Rattle.routing.specs.Records.{record_at}
 use Rattle.routing.specs.State.{well_formed}
 use Rattle.door.proofs.Lent.{test_of, formed-in, says-as, ill-asked, rule-asked}
 use Rattle.door_ways.specs.Rows.{row_beside}
@@ -29,4 +30,4 @@ record_at-x-requires c = record { formed = (formed-in _ _ _ _ c.columns_formed.e
 
 pub returns : goal.returns
 unfolding record_at
-returns c = record { call = λ _. rule-asked well_formed _ _ (test_of _ _ _ (λ _. c.columns_formed.ensures) (not-false _ c.if-not-columns_formed.false-raw)) (λ _. rw (sym c.agrees.ensures ∙ not-false _ c.if-not-agrees.false-raw) (says-as (ap (λ (x : RecordRow). row_beside (record_here x.entry) x.relays) c.record_at-x.ensures) c.say_row.ensures)); none = λ n. absurd (n c.if-relays-ne32.false) }
+returns c = record { call = λ _. rule-asked well_formed _ _ (test_of _ _ _ (λ _. c.columns_formed.ensures) (not-false _ c.if-not-columns_formed.false-raw)) (λ _. rw (sym c.agrees.ensures ∙ not-false _ c.if-not-agrees.false-raw) (says-as (ap (λ (x : RecordRow). row_beside (Ok x.entry) x.relays) c.record_at-x.ensures) c.say_row.ensures)); none = λ n. absurd (n c.if-relays-ne32.false) }

@@ -28,4 +28,4 @@ pub returns : goal.returns
 returns c =
     let a = c.args in
     let t = in_columns a.discovery_keys.now a.discovery_words.now a.discovery_ends.now a.discoveries in
-    c.some_over.ensures ∙ discovery-freed a.now_ms (pair_key a.source a.id) t c.requires c.if-discoveries-lt32.false _ (sym c.in-Missing.is ∙ c.place_of-place.ensures)
+    c.some_over.ensures ∙ discovery-freed a.now_ms (pair_key a.source a.id) t c.requires c.if-discoveries-lt32.false _ (sym c.in-Err.is ∙ c.place_of-place.ensures)

@@ -20,10 +20,10 @@ pub returns-then-d-now_ms : goal.returns-then-d-now_ms
 returns-then-d-now_ms c =
     let a = c.args in
     let t = in_columns a.discovery_keys.now a.discovery_words.now a.discovery_ends.now a.discoveries in
-    live-over a.now_ms (pair_key a.source a.id) t c.requires _ (sym c.in-Found.is ∙ c.find.ensures) (le-ltb a.now_ms _ c.if-d-now_ms.true)
+    live-over a.now_ms (pair_key a.source a.id) t c.requires _ (sym c.in-Some.is ∙ c.find.ensures) (le-ltb a.now_ms _ c.if-d-now_ms.true)
 
 pub returns : goal.returns
 returns c =
     let a = c.args in
     let t = in_columns a.discovery_keys.now a.discovery_words.now a.discovery_ends.now a.discoveries in
-    live-found a.now_ms (pair_key a.source a.id) t c.requires _ (sym c.in-Found.is ∙ c.find.ensures) (lt-ltb a.now_ms _ c.if-d-now_ms.false)
+    live-found a.now_ms (pair_key a.source a.id) t c.requires _ (sym c.in-Some.is ∙ c.find.ensures) (lt-ltb a.now_ms _ c.if-d-now_ms.false)

@@ -1,23 +1,10 @@
 -- No route that is passed goes, so whether one of the rest goes is whether one of all goes.
--- The measure is the rows left.
-use Prim.Native.Nat.{◌-◌}
 use mathlib.Core.Bool.{not}
-use mathlib.Core.Path.{refl, sym, ap, ◌∙◌}
+use mathlib.Core.Path.{sym, ap, ◌∙◌}
 use native.Mathlib.Omega.{arith}
 use Rattle.route_table.specs.Table as route
 use Rattle.expiry.proofs.Pending.{one-fits, not-this, none-fits}
 use Rattle.expiry.proofs.frees_route.Goals as goal
-
-pub loop-i-init : goal.loop-i-init
-loop-i-init c = refl
-
-pub entry_at-e-requires : goal.entry_at-e-requires
-entry_at-e-requires c =
-    let o = c.requires.routes.ordered in
-    (omega (arith, o.small, o.long.0), omega (arith, o.small, o.long.1.0), omega (arith, o.small, o.long.1.1.0))
-
-pub stays-requires : goal.stays-requires
-stays-requires c = c.requires.discoveries
 
 pub returns-then-not-stays : goal.returns-then-not-stays
 returns-then-not-stays c =

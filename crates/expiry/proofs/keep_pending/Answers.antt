@@ -1,6 +1,5 @@
 -- At each turn the rest of the sweep, done now, gives the routes that stay.
 -- The measure is the rows not passed, which a removal lessens too.
-use Prim.Native.Nat.{◌-◌}
 use mathlib.Core.Path.{sym, ◌∙◌}
 use native.Mathlib.Omega.{arith}
 use Rattle.standard.specs.Expiry.{expired}
@@ -10,36 +9,14 @@ use Rattle.expiry.proofs.keep_pending.Goals as goal
 pub loop-i-init : goal.loop-i-init
 loop-i-init c = begun _ _ _ _ _ c.requires.routes
 
-pub entry_at-e-requires : goal.entry_at-e-requires
-entry_at-e-requires c =
-    let o = c.loop-i.invariant.sound.ordered in
-    (omega (arith, o.small, o.long.0), omega (arith, o.small, o.long.1.0), omega (arith, o.small, o.long.1.1.0))
-
-pub stays-requires : goal.stays-requires
-stays-requires c = c.requires.discoveries
-
 pub loop-i-preserved-then-stays : goal.loop-i-preserved-then-stays
 loop-i-preserved-then-stays c = let v = c.loop-i in kept _ v.route_keys v.route_words v.route_usage v.n _ v.i v.invariant _ c.entry_at-e.ensures (omega arith) (sym c.stays.ensures ∙ c.if-stays.true)
-
-pub remove_at-requires : goal.remove_at-requires
-remove_at-requires c =
-    let o = c.loop-i.invariant.sound.ordered in
-    (omega (arith, o.small, o.long.0), omega (arith, o.small, o.long.1.0), omega (arith, o.small, o.long.1.1.0))
 
 pub loop-i-preserved : goal.loop-i-preserved
 loop-i-preserved c =
     let v = c.loop-i in
     let r = c.remove_at.ensures in
     taken _ v.route_keys v.route_words v.route_usage v.n _ v.i v.invariant _ c.entry_at-e.ensures (omega arith) (sym c.stays.ensures ∙ c.if-stays.false) _ _ _ r.0 r.1 r.2
-
-pub shape_of-route_keys : goal.shape_of-route_keys
-shape_of-route_keys c = c.loop-i.invariant.sound.ordered.long.0 ∙ sym c.requires.routes.ordered.long.0
-
-pub shape_of-route_words : goal.shape_of-route_words
-shape_of-route_words c = c.loop-i.invariant.sound.ordered.long.1.0 ∙ sym c.requires.routes.ordered.long.1.0
-
-pub shape_of-route_usage : goal.shape_of-route_usage
-shape_of-route_usage c = c.loop-i.invariant.sound.ordered.long.1.1.0 ∙ sym c.requires.routes.ordered.long.1.1.0
 
 pub returns : goal.returns
 unfolding expired

@@ -27,4 +27,4 @@ pub returns : goal.returns
 returns c =
     let a = c.args in
     let t = in_columns a.route_keys.now a.route_words.now a.route_usage.now a.routes a.discovery_keys.now a.discovery_words.now a.discovery_ends.now a.discoveries in
-    c.frees_route.ensures ∙ route-freed a.now_ms a.destination.0 t c.requires c.if-routes-lt64.false _ (sym c.in-Missing.is ∙ c.place_of-place.ensures)
+    c.frees_route.ensures ∙ route-freed a.now_ms a.destination.0 t c.requires c.if-routes-lt64.false _ (sym c.in-Err.is ∙ c.place_of-place.ensures)

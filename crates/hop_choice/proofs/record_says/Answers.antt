@@ -21,19 +21,19 @@ pub bounds-record_lengths-i : goal.bounds-record_lengths-i
 bounds-record_lengths-i c =
     let a = c.args in
     let t = in_columns a.record_keys.now a.record_lengths.now a.records in
-    omega (arith, place-within t c.requires _ _ (sym c.in-Found.is ∙ c.place_of-place.ensures), c.requires.ordered.long.1.0, c.requires.ordered.small)
+    omega (arith, place-within t c.requires _ _ (sym c.in-Ok.is ∙ c.place_of-place.ensures), c.requires.ordered.long.1.0, c.requires.ordered.small)
 
 pub returns-then-n-eq0 : goal.returns-then-n-eq0
 returns-then-n-eq0 c =
     let a = c.args in
-    empty-record a.policy (in_columns a.record_keys.now a.record_lengths.now a.records) a.destination c.if-not-policy.false-raw _ c.place_of-place.ensures _ c.in-Found.is c.if-n-eq0.true
+    empty-record a.policy (in_columns a.record_keys.now a.record_lengths.now a.records) a.destination c.if-not-policy.false-raw _ c.place_of-place.ensures _ c.in-Ok.is c.if-n-eq0.true
 
 pub returns-then-n-policy : goal.returns-then-n-policy
 returns-then-n-policy c =
     let a = c.args in
-    short-record a.policy (in_columns a.record_keys.now a.record_lengths.now a.records) a.destination c.if-not-policy.false-raw _ c.place_of-place.ensures _ c.in-Found.is c.if-n-eq0.false c.if-n-policy.true
+    short-record a.policy (in_columns a.record_keys.now a.record_lengths.now a.records) a.destination c.if-not-policy.false-raw _ c.place_of-place.ensures _ c.in-Ok.is c.if-n-eq0.false c.if-n-policy.true
 
 pub returns : goal.returns
 returns c =
     let a = c.args in
-    long-record a.policy (in_columns a.record_keys.now a.record_lengths.now a.records) a.destination c.if-not-policy.false-raw _ c.place_of-place.ensures _ c.in-Found.is c.if-n-eq0.false c.if-n-policy.false
+    long-record a.policy (in_columns a.record_keys.now a.record_lengths.now a.records) a.destination c.if-not-policy.false-raw _ c.place_of-place.ensures _ c.in-Ok.is c.if-n-eq0.false c.if-n-policy.false

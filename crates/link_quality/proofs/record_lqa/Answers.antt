@@ -1,5 +1,5 @@
 -- The first place with the address is that of the first row that has it, whose link word is stored anew; where there is none the sample waits.
-use mathlib.Core.Option.{Option}
+use Rattle.std.specs.Prelude.{Option}
 use mathlib.Core.Path.{sym, ap, subst}
 use Rattle.neighbor_table.specs.declared.NeighborEntry.{NeighborEntry}
 use Rattle.neighbor_changes.specs.declared.Change.TheVariants.{Sample}

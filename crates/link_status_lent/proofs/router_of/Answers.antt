@@ -2,7 +2,8 @@
 use Prim.Native.Nat.{◌+◌}
 use mathlib.Core.Path.{ap, ◌∙◌}
 use Rattle.ring_buffer.specs.Ring.{after_push}
-use Rattle.waiting_table.specs.declared.WaitingLookup.{WaitingLookup}
+use Rattle.ring_buffer.specs.declared.RingBuffer.{RingBuffer}
+use Rattle.waiting_table.specs.Entry.{ring_in}
 use Rattle.link_status.specs.Digest.{forever, new_router}
 use Rattle.link_status_lent.proofs.router_of.Goals as goal
 
@@ -11,4 +12,4 @@ returns c =
     let a = c.args in
     c.new_router.ensures
     ∙ ap (new_router a.name a.nwk (a.now_ms + forever) a.now_ms)
-    (c.push-lqas.ensures ∙ ap (λ (l : WaitingLookup). after_push l.entry.lqas a.lqi) c.find-found.ensures)
+    (c.push-lqas.ensures ∙ ap (λ (r : RingBuffer). after_push r a.lqi) (c.ring_in-held.ensures ∙ ap ring_in c.find-found.ensures))

@@ -1,12 +1,13 @@
 -- Case by case.
+use Rattle.std.specs.Prelude.{Result, ℕ}
 use mathlib.Core.Path.{sym, ap, ◌∙◌}
 use Rattle.neighbor_answers.specs.Answers.{count_said}
-use Rattle.neighbor_queries.specs.declared.Count.{Count}
 use Rattle.numbers.specs.Said.{spoken}
 use Rattle.neighbor_answers.proofs.count_answer.Goals as goal
+use Rattle.types.specs.declared.Refusal.{Refusal}
 
-pub returns-in-Is : goal.returns-in-Is
-returns-in-Is c = c.one.ensures ∙ ap (λ (a : Count). spoken (count_said a)) (sym c.in-Is.is)
+pub returns-in-Ok : goal.returns-in-Ok
+returns-in-Ok c = c.one.ensures ∙ ap (λ (a : Result ℕ Refusal). spoken (count_said a)) (sym c.in-Ok.is)
 
-pub returns-in-Refused : goal.returns-in-Refused
-returns-in-Refused c = c.refused.ensures ∙ ap (λ (a : Count). spoken (count_said a)) (sym c.in-Refused.is)
+pub returns-in-Err : goal.returns-in-Err
+returns-in-Err c = c.refused.ensures ∙ ap (λ (a : Result ℕ Refusal). spoken (count_said a)) (sym c.in-Err.is)

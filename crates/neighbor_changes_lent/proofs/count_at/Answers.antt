@@ -12,19 +12,19 @@ pub place_of-place-requires : goal.place_of-place-requires
 place_of-place-requires c = (omega (arith, c.requires.small, c.requires.long.0), c.requires.rising)
 
 pub offset_bounds-counts-i : goal.offset_bounds-counts-i
-offset_bounds-counts-i c = omega (arith, c.requires.small, c.requires.long.1.0, place-below c.args.keys.now c.args.count _ _ (omega (arith, c.requires.small, c.requires.long.0)) (sym c.in-Found.is ∙ c.place_of-place.ensures))
+offset_bounds-counts-i c = omega (arith, c.requires.small, c.requires.long.1.0, place-below c.args.keys.now c.args.count _ _ (omega (arith, c.requires.small, c.requires.long.0)) (sym c.in-Ok.is ∙ c.place_of-place.ensures))
 
 pub bounds-counts-i : goal.bounds-counts-i
-bounds-counts-i c = omega (arith, c.requires.small, c.requires.long.1.0, place-below c.args.keys.now c.args.count _ _ (omega (arith, c.requires.small, c.requires.long.0)) (sym c.in-Found.is ∙ c.place_of-place.ensures))
+bounds-counts-i c = omega (arith, c.requires.small, c.requires.long.1.0, place-below c.args.keys.now c.args.count _ _ (omega (arith, c.requires.small, c.requires.long.0)) (sym c.in-Ok.is ∙ c.place_of-place.ensures))
 
-pub offset_bounds-counts-i-in-Found : goal.offset_bounds-counts-i-in-Found
-offset_bounds-counts-i-in-Found c = omega (arith, c.requires.small, c.requires.long.1.0, place-below c.args.keys.now c.args.count _ _ (omega (arith, c.requires.small, c.requires.long.0)) (sym c.in-Found.is ∙ c.place_of-place.ensures))
+pub offset_bounds-counts-i-in-Ok : goal.offset_bounds-counts-i-in-Ok
+offset_bounds-counts-i-in-Ok c = omega (arith, c.requires.small, c.requires.long.1.0, place-below c.args.keys.now c.args.count _ _ (omega (arith, c.requires.small, c.requires.long.0)) (sym c.in-Ok.is ∙ c.place_of-place.ensures))
 
-pub bounds-counts-i-in-Found : goal.bounds-counts-i-in-Found
-bounds-counts-i-in-Found c = omega (arith, c.requires.small, c.requires.long.1.0, place-below c.args.keys.now c.args.count _ _ (omega (arith, c.requires.small, c.requires.long.0)) (sym c.in-Found.is ∙ c.place_of-place.ensures))
+pub bounds-counts-i-in-Ok : goal.bounds-counts-i-in-Ok
+bounds-counts-i-in-Ok c = omega (arith, c.requires.small, c.requires.long.1.0, place-below c.args.keys.now c.args.count _ _ (omega (arith, c.requires.small, c.requires.long.0)) (sym c.in-Ok.is ∙ c.place_of-place.ensures))
 
-pub returns-in-Found : goal.returns-in-Found
-returns-in-Found c = λ t w. counts-held (lent_counts c.args.keys.now c.args.counts.now c.args.count t) w _ _ (place-within (lent_counts c.args.keys.now c.args.counts.now c.args.count t) w.formed _ _ (sym c.in-Found.is ∙ c.place_of-place.ensures)) (found-row (lent_counts c.args.keys.now c.args.counts.now c.args.count t) w.formed _ _ (sym c.in-Found.is ∙ c.place_of-place.ensures)) c.args.counter _ c.one_more.ensures
+pub returns-in-Ok : goal.returns-in-Ok
+returns-in-Ok c = λ t w. counts-held (lent_counts c.args.keys.now c.args.counts.now c.args.count t) w _ _ (place-within (lent_counts c.args.keys.now c.args.counts.now c.args.count t) w.formed _ _ (sym c.in-Ok.is ∙ c.place_of-place.ensures)) (found-row (lent_counts c.args.keys.now c.args.counts.now c.args.count t) w.formed _ _ (sym c.in-Ok.is ∙ c.place_of-place.ensures)) c.args.counter _ c.one_more.ensures
 
-pub returns-in-Missing : goal.returns-in-Missing
-returns-in-Missing c = λ t w. unchanged-holds (lent_counts c.args.keys.now c.args.counts.now c.args.count t) w (applied (change_of c.args.counter)) _ (missing-row (lent_counts c.args.keys.now c.args.counts.now c.args.count t) w.formed _ _ (sym c.in-Missing.is ∙ c.place_of-place.ensures))
+pub returns-in-Err : goal.returns-in-Err
+returns-in-Err c = λ t w. unchanged-holds (lent_counts c.args.keys.now c.args.counts.now c.args.count t) w (applied (change_of c.args.counter)) _ (missing-row (lent_counts c.args.keys.now c.args.counts.now c.args.count t) w.formed _ _ (sym c.in-Err.is ∙ c.place_of-place.ensures))

@@ -2,4 +2,4 @@
 use Rattle.neighbor_changes_lent.proofs.failed.Goals as goal
 
 pub returns : goal.returns
-returns c = rw c.saturating_add_u8.ensures
+returns c = rw c.saturating_add.ensures

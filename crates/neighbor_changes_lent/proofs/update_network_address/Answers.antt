@@ -12,13 +12,13 @@ pub place_of-place-requires : goal.place_of-place-requires
 place_of-place-requires c = (omega (arith, c.requires.small, c.requires.long.0), c.requires.rising)
 
 pub offset_bounds-nwks-i : goal.offset_bounds-nwks-i
-offset_bounds-nwks-i c = omega (arith, c.requires.small, c.requires.long.1.0, place-below c.args.keys.now c.args.count _ _ (omega (arith, c.requires.small, c.requires.long.0)) (sym c.in-Found.is ∙ c.place_of-place.ensures))
+offset_bounds-nwks-i c = omega (arith, c.requires.small, c.requires.long.1.0, place-below c.args.keys.now c.args.count _ _ (omega (arith, c.requires.small, c.requires.long.0)) (sym c.in-Ok.is ∙ c.place_of-place.ensures))
 
 pub bounds-nwks-i : goal.bounds-nwks-i
-bounds-nwks-i c = omega (arith, c.requires.small, c.requires.long.1.0, place-below c.args.keys.now c.args.count _ _ (omega (arith, c.requires.small, c.requires.long.0)) (sym c.in-Found.is ∙ c.place_of-place.ensures))
+bounds-nwks-i c = omega (arith, c.requires.small, c.requires.long.1.0, place-below c.args.keys.now c.args.count _ _ (omega (arith, c.requires.small, c.requires.long.0)) (sym c.in-Ok.is ∙ c.place_of-place.ensures))
 
-pub returns-in-Found : goal.returns-in-Found
-returns-in-Found c = λ t w. nwk-held (with_nwks c.args.nwks.now (lent_keys c.args.keys.now c.args.count t)) w _ _ (place-within (with_nwks c.args.nwks.now (lent_keys c.args.keys.now c.args.count t)) w.formed _ _ (sym c.in-Found.is ∙ c.place_of-place.ensures)) (found-row (with_nwks c.args.nwks.now (lent_keys c.args.keys.now c.args.count t)) w.formed _ _ (sym c.in-Found.is ∙ c.place_of-place.ensures)) c.args.nwk
+pub returns-in-Ok : goal.returns-in-Ok
+returns-in-Ok c = λ t w. nwk-held (with_nwks c.args.nwks.now (lent_keys c.args.keys.now c.args.count t)) w _ _ (place-within (with_nwks c.args.nwks.now (lent_keys c.args.keys.now c.args.count t)) w.formed _ _ (sym c.in-Ok.is ∙ c.place_of-place.ensures)) (found-row (with_nwks c.args.nwks.now (lent_keys c.args.keys.now c.args.count t)) w.formed _ _ (sym c.in-Ok.is ∙ c.place_of-place.ensures)) c.args.nwk
 
-pub returns-in-Missing : goal.returns-in-Missing
-returns-in-Missing c = λ t w. unchanged-holds (with_nwks c.args.nwks.now (lent_keys c.args.keys.now c.args.count t)) w (applied (Address c.args.nwk)) _ (missing-row (with_nwks c.args.nwks.now (lent_keys c.args.keys.now c.args.count t)) w.formed _ _ (sym c.in-Missing.is ∙ c.place_of-place.ensures))
+pub returns-in-Err : goal.returns-in-Err
+returns-in-Err c = λ t w. unchanged-holds (with_nwks c.args.nwks.now (lent_keys c.args.keys.now c.args.count t)) w (applied (Address c.args.nwk)) _ (missing-row (with_nwks c.args.nwks.now (lent_keys c.args.keys.now c.args.count t)) w.formed _ _ (sym c.in-Err.is ∙ c.place_of-place.ensures))

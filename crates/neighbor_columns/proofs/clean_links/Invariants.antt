@@ -1,13 +1,10 @@
--- The answer so far tells of the places passed. The measure is the places left.
-use Prim.Native.Nat.{ℕ, ◌-◌}
-use lib.ListN.{length, get_or}
+-- The answer so far tells of the places passed.
+use Prim.Native.Nat.{ℕ}
+use lib.ListN.{get_or}
 use Rattle.standard.specs.Tells.{Tells}
 use Rattle.columns.proofs.Tested.{Passed}
 use Rattle.neighbor_columns.specs.Codec.{CleanLink}
 use Rattle.neighbor_columns.proofs.clean_links.Given as goal
 
-abbrev pub invariant-loop-i : goal.invariant-loop-i
-invariant-loop-i l = Tells (Passed (λ (j : ℕ). CleanLink (get_or l.links j 0)) 0 l.i) l.ok
-
-abbrev pub decreases-loop-i : goal.decreases-loop-i
-decreases-loop-i l = length l.links - l.i
+abbrev pub invariant-loop-w : goal.invariant-loop-w
+invariant-loop-w l = Tells (Passed (λ (j : ℕ). CleanLink (get_or l.links j 0)) 0 l.w-index) l.ok

@@ -1,5 +1,5 @@
--- Those counted and those that still fit make up all that fit. The measure is the places left.
-use Prim.Native.Nat.{◌+◌, ◌≤◌, ◌-◌}
+-- Those counted and those that still fit make up all that fit.
+use Prim.Native.Nat.{◌+◌, ◌≤◌}
 use mathlib.Core.List.{List}
 use mathlib.Core.Path.{◌≡◌}
 use lib.ListN.{drop}
@@ -11,7 +11,4 @@ use Rattle.neighbor_queries_lent.specs.Read.{lent_words}
 use Rattle.neighbor_queries_lent.proofs.count_fitting.Given as goal
 
 abbrev pub invariant-loop-i : goal.invariant-loop-i
-invariant-loop-i l = (l.i ≤ l.count) × (l.fitting ≤ l.i) × Asked (lent_words l.nwks l.links l.count) (λ (xs : List NeighborEntry). l.fitting + count_fits (fits l.filter) (drop l.i xs) ≡ count_fits (fits l.filter) xs)
-
-abbrev pub decreases-loop-i : goal.decreases-loop-i
-decreases-loop-i l = l.count - l.i
+invariant-loop-i l = (l.fitting ≤ l.i) × Asked (lent_words l.nwks l.links l.count) (λ (xs : List NeighborEntry). l.fitting + count_fits (fits l.filter) (drop l.i xs) ≡ count_fits (fits l.filter) xs)

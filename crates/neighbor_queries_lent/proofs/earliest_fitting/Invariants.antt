@@ -1,5 +1,4 @@
--- The earliest of the deadlines passed, with the earliest of those to come, is the earliest of all. The measure is the places left.
-use Prim.Native.Nat.{◌≤◌, ◌-◌}
+-- The earliest of the deadlines passed, with the earliest of those to come, is the earliest of all.
 use mathlib.Core.List.{List, map}
 use mathlib.Core.Path.{◌≡◌}
 use lib.ListN.{drop}
@@ -8,12 +7,9 @@ use Rattle.standard.specs.Rows.{lesser, least}
 use Rattle.neighbor_table.specs.declared.NeighborEntry.{NeighborEntry}
 use Rattle.neighbor_columns.specs.Lent.{Asked}
 use Rattle.neighbor_queries.specs.Filter.{fits}
-use Rattle.neighbor_queries.specs.Lists.{deadline_of, time_of}
+use Rattle.neighbor_queries.specs.Lists.{deadline_of}
 use Rattle.neighbor_queries_lent.specs.Read.{lent_deadlines}
 use Rattle.neighbor_queries_lent.proofs.earliest_fitting.Given as goal
 
 abbrev pub invariant-loop-i : goal.invariant-loop-i
-invariant-loop-i l = (l.i ≤ l.count) × Asked (lent_deadlines l.nwks l.links l.deadlines l.count) (λ (xs : List NeighborEntry). lesser (time_of l.first) (least (map deadline_of (keep (fits l.filter) (drop l.i xs)))) ≡ least (map deadline_of (keep (fits l.filter) xs)))
-
-abbrev pub decreases-loop-i : goal.decreases-loop-i
-decreases-loop-i l = l.count - l.i
+invariant-loop-i l = Asked (lent_deadlines l.nwks l.links l.deadlines l.count) (λ (xs : List NeighborEntry). lesser (l.first) (least (map deadline_of (keep (fits l.filter) (drop l.i xs)))) ≡ least (map deadline_of (keep (fits l.filter) xs)))

@@ -1,5 +1,4 @@
--- No row passed fits, so that the first of the rest is the first of all. The measure is the places left.
-use Prim.Native.Nat.{◌≤◌, ◌-◌}
+-- No row passed fits, so that the first of the rest is the first of all.
 use mathlib.Core.List.{List}
 use mathlib.Core.Path.{◌≡◌}
 use lib.ListN.{drop}
@@ -11,7 +10,4 @@ use Rattle.neighbor_queries_lent.specs.Read.{lent_words}
 use Rattle.neighbor_queries_lent.proofs.first_fitting.Given as goal
 
 abbrev pub invariant-loop-i : goal.invariant-loop-i
-invariant-loop-i l = (l.i ≤ l.count) × Asked (lent_words l.nwks l.links l.count) (λ (xs : List NeighborEntry). first (fits l.filter) (drop l.i xs) ≡ first (fits l.filter) xs)
-
-abbrev pub decreases-loop-i : goal.decreases-loop-i
-decreases-loop-i l = l.count - l.i
+invariant-loop-i l = Asked (lent_words l.nwks l.links l.count) (λ (xs : List NeighborEntry). first (fits l.filter) (drop l.i xs) ≡ first (fits l.filter) xs)

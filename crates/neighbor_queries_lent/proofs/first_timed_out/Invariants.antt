@@ -1,5 +1,4 @@
--- No row passed fits, so that the first of the rest is the first of all. The measure is the places left.
-use Prim.Native.Nat.{◌≤◌, ◌-◌}
+-- No row passed fits, so that the first of the rest is the first of all.
 use mathlib.Core.List.{List}
 use mathlib.Core.Path.{◌≡◌}
 use lib.ListN.{drop}
@@ -12,7 +11,4 @@ use Rattle.neighbor_queries_lent.specs.Read.{lent_times}
 use Rattle.neighbor_queries_lent.proofs.first_timed_out.Given as goal
 
 abbrev pub invariant-loop-i : goal.invariant-loop-i
-invariant-loop-i l = (l.i ≤ l.count) × Asked (lent_times l.links l.deadlines l.count) (λ (xs : List NeighborEntry). first (fits (TimedOut l.at)) (drop l.i xs) ≡ first (fits (TimedOut l.at)) xs)
-
-abbrev pub decreases-loop-i : goal.decreases-loop-i
-decreases-loop-i l = l.count - l.i
+invariant-loop-i l = Asked (lent_times l.links l.deadlines l.count) (λ (xs : List NeighborEntry). first (fits (TimedOut l.at)) (drop l.i xs) ≡ first (fits (TimedOut l.at)) xs)

@@ -1,68 +1,17 @@
--- What is collected, with what the rows to come still give, is the link status of all that fit. The measure is the places left.
-use Prim.Native.Nat.{◌-◌}
-use mathlib.Core.Path.{◌≡◌, refl, sym, ap, ◌∙◌}
-use lib.ListN.{set}
+-- What is gathered of the rows that fit is what is read off them, in their order.
+use mathlib.Core.Path.{◌≡◌, refl}
 use Rattle.neighbor_table.specs.declared.NeighborEntry.{NeighborEntry}
-use Rattle.neighbor_columns.specs.Codec.{neighbor_from}
 use Rattle.neighbor_queries_lent.specs.Read.{lent_words}
-use Rattle.neighbor_queries.specs.declared.LinkStatus.{LinkStatus}
 use Rattle.neighbor_queries.specs.Filter.{fits}
 use Rattle.neighbor_queries.specs.Lists.{no_status, status_of, status_list}
-use Rattle.neighbor_queries_lent.proofs.Loops.{in_row, collected-none, collected-taken, collected-passed, collected-out, collected-count}
+use Rattle.neighbor_queries_lent.proofs.Loops.{in_row}
 use borrow.Author.Rules.{rules}
-use native.Mathlib.Omega.{arith}
 use Rattle.neighbor_queries_lent.proofs.statuses_fitting.Goals as goal
-use Rattle.neighbor_queries_lent.proofs.statuses_fitting.Goals.{then-fits_word, else-fits_word}
-
-pub loop-i-init : goal.loop-i-init
-loop-i-init c =
-    let on = lent_words c.args.nwks.now c.args.links.now c.args.count in
-    (omega arith, omega arith, λ t f. collected-none no_status status_of (fits c.args.filter) (on t) f _ refl)
-
-pub bounds-nwks-i : goal.bounds-nwks-i
-bounds-nwks-i c =
-    omega (arith, c.requires.1.0, c.requires.1.1.0)
-
-pub bounds-links-i : goal.bounds-links-i
-bounds-links-i c =
-    omega (arith, c.requires.1.0, c.requires.1.1.1.0)
-
-pub fits_word-requires : goal.fits_word-requires
-fits_word-requires c = c.requires.0
-
-pub bounds-nwks-i-then-fits_word : goal.bounds-nwks-i-then-fits_word
-bounds-nwks-i-then-fits_word c =
-    omega (arith, c.requires.1.0, c.requires.1.1.0)
-
-pub bounds-links-i-then-fits_word : goal.bounds-links-i-then-fits_word
-bounds-links-i-then-fits_word c =
-    omega (arith, c.requires.1.0, c.requires.1.1.1.0)
-
-pub bounds-statuses-n : goal.bounds-statuses-n
-bounds-statuses-n c =
-    let v = c.loop-i in
-    omega (arith, v.invariant.1, v.invariant.0, c.requires.1.0)
-
-pub overflow_add-n : goal.overflow_add-n
-overflow_add-n c =
-    let v = c.loop-i in
-    omega (arith, v.invariant.1, v.invariant.0, c.requires.1.0)
-
-pub loop-i-preserved : goal.loop-i-preserved
-unfolding neighbor_from
-loop-i-preserved c =
-    let v = c.loop-i in
-    let on = lent_words c.args.nwks.now c.args.links.now c.args.count in
-    let fit = fits c.args.filter in (
-      search rules,
-      elim c.if-fits_word.branch [ then-fits_word w ↦ omega (arith, w.n-is, v.invariant.1) | else-fits_word w ↦ omega (arith, w.n-is, v.invariant.1) ],
-      λ t f. elim c.if-fits_word.branch [ then-fits_word w ↦ collected-taken no_status status_of fit (on t) f v.i (search rules) v.statuses v.n (v.invariant.2 t f) c.if-fits_word.statuses c.if-fits_word.n (sym (in_row (on t) v.i (λ (e : NeighborEntry). c.fits_word.result ≡ fit e) c.fits_word.ensures) ∙ w.if-fits_word.true) (w.statuses-is ∙ ap (λ (x : LinkStatus). set v.statuses v.n x) (in_row (on t) v.i (λ (e : NeighborEntry). w.status_of.result ≡ status_of e) w.status_of.ensures)) w.n-is | else-fits_word w ↦ collected-passed no_status status_of fit (on t) f v.i (search rules) v.statuses v.n (v.invariant.2 t f) c.if-fits_word.statuses c.if-fits_word.n (sym (in_row (on t) v.i (λ (e : NeighborEntry). c.fits_word.result ≡ fit e) c.fits_word.ensures) ∙ w.if-fits_word.false) w.statuses-is w.n-is ],
-    )
 
 pub returns : goal.returns
 unfolding status_list
 returns c =
-    let v = c.loop-i in
     let on = lent_words c.args.nwks.now c.args.links.now c.args.count in
     let fit = fits c.args.filter in
-    λ t f. λ z. record { count = collected-count no_status status_of fit (on t) f v.i (search rules) v.statuses v.n (v.invariant.2 t f) z; statuses = collected-out no_status status_of fit (on t) f v.i (search rules) v.statuses v.n (v.invariant.2 t f) z }
+    λ t f. let made = c.gather-count.ensures (on t) fit status_of no_status f refl refl (λ i b h s. in_row (on t) i (λ (e : NeighborEntry). b ≡ fit e) (search rules)) (λ i x h s. search rules) in
+    λ z. record { count = made.0 z; statuses = made.1 z }

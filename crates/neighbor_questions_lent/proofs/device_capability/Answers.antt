@@ -1,9 +1,6 @@
 -- The link word of the row says it.
 use native.Mathlib.Omega.{arith}
-use mathlib.Core.Option.{Option}
 use mathlib.Core.Path.{sym, ap, ◌∙◌}
-use Rattle.neighbor_table.specs.declared.NeighborEntry.{NeighborEntry}
-use Rattle.neighbor_table.specs.Lookup.{looked}
 use Rattle.neighbor_columns.specs.Codec.{neighbor_from}
 use Rattle.neighbor_columns.specs.Lent.{lent_links}
 use Rattle.neighbor_columns.proofs.Rows.{found-row, missing-row}
@@ -17,19 +14,19 @@ place_of-place-requires c =
 
 pub offset_bounds-links-i : goal.offset_bounds-links-i
 offset_bounds-links-i c =
-    omega (arith, c.requires.small, c.requires.long.1.0, found-in-use c.args.keys.now c.args.count c.args.eui64.0 c.in-Found.i (omega (arith, c.requires.small, c.requires.long.0)) (sym c.in-Found.is ∙ c.place_of-place.ensures))
+    omega (arith, c.requires.small, c.requires.long.1.0, found-in-use c.args.keys.now c.args.count c.args.eui64.0 c.in-Ok.i (omega (arith, c.requires.small, c.requires.long.0)) (sym c.in-Ok.is ∙ c.place_of-place.ensures))
 
 pub bounds-links-i : goal.bounds-links-i
 bounds-links-i c =
-    omega (arith, c.requires.small, c.requires.long.1.0, found-in-use c.args.keys.now c.args.count c.args.eui64.0 c.in-Found.i (omega (arith, c.requires.small, c.requires.long.0)) (sym c.in-Found.is ∙ c.place_of-place.ensures))
+    omega (arith, c.requires.small, c.requires.long.1.0, found-in-use c.args.keys.now c.args.count c.args.eui64.0 c.in-Ok.i (omega (arith, c.requires.small, c.requires.long.0)) (sym c.in-Ok.is ∙ c.place_of-place.ensures))
 
-pub returns-in-Found : goal.returns-in-Found
+pub returns-in-Ok : goal.returns-in-Ok
 unfolding neighbor_from
-returns-in-Found c =
+returns-in-Ok c =
     let on = lent_links c.args.keys.now c.args.links.now c.args.count in
-    λ t f. rw c.link_of-part.ensures (ap (λ (o : Option NeighborEntry). capability_in (looked o)) (sym (found-row (on t) f c.args.eui64.0 c.in-Found.i (sym c.in-Found.is ∙ c.place_of-place.ensures))))
+    λ t f. rw c.link_of-part.ensures (ap capability_in (sym (found-row (on t) f c.args.eui64.0 c.in-Ok.i (sym c.in-Ok.is ∙ c.place_of-place.ensures))))
 
-pub returns-in-Missing : goal.returns-in-Missing
-returns-in-Missing c =
+pub returns-in-Err : goal.returns-in-Err
+returns-in-Err c =
     let on = lent_links c.args.keys.now c.args.links.now c.args.count in
-    λ t f. ap (λ (o : Option NeighborEntry). capability_in (looked o)) (sym (missing-row (on t) f c.args.eui64.0 c.in-Missing.field-0 (sym c.in-Missing.is ∙ c.place_of-place.ensures)))
+    λ t f. ap capability_in (sym (missing-row (on t) f c.args.eui64.0 c.in-Err.field-0 (sym c.in-Err.is ∙ c.place_of-place.ensures)))

@@ -1,9 +1,6 @@
 -- The first row with the address gives the link.
 use native.Mathlib.Omega.{arith}
-use mathlib.Core.Option.{Option}
 use mathlib.Core.Path.{sym, ap}
-use Rattle.neighbor_table.specs.declared.NeighborEntry.{NeighborEntry}
-use Rattle.neighbor_table.specs.Lookup.{looked}
 use Rattle.neighbor_columns.specs.Codec.{neighbor_from}
 use Rattle.neighbor_columns.specs.Lent.{seen}
 use Rattle.neighbor_queries.specs.Filter.{fits}
@@ -20,7 +17,7 @@ first16-i-requires c =
 pub returns-then-count-i : goal.returns-then-count-i
 returns-then-count-i c =
     let on = seen c.args.keys.now c.args.nwks.now c.args.links.now c.args.count in
-    λ t f. ap (λ (o : Option NeighborEntry). link_in (looked o)) (sym (first-no (on t) f (fits (Address c.args.nwk)) c.first16-i.result (search rules) (address-first (on t) f c.args.nwk c.first16-i.result c.first16-i.ensures)))
+    λ t f. ap link_in (sym (first-no (on t) f (fits (Address c.args.nwk)) c.first16-i.result (search rules) (address-first (on t) f c.args.nwk c.first16-i.result c.first16-i.ensures)))
 
 pub bounds-links-i : goal.bounds-links-i
 bounds-links-i c =
@@ -34,4 +31,4 @@ pub returns : goal.returns
 unfolding neighbor_from
 returns c =
     let on = seen c.args.keys.now c.args.nwks.now c.args.links.now c.args.count in
-    λ t f. rw (c.outgoing_cost.ensures, c.incoming_cost.ensures) (ap (λ (o : Option NeighborEntry). link_in (looked o)) (sym (first_some (on t) f (fits (Address c.args.nwk)) c.first16-i.result (search rules) (address-first (on t) f c.args.nwk c.first16-i.result c.first16-i.ensures))))
+    λ t f. rw (c.outgoing_cost.ensures, c.incoming_cost.ensures) (ap link_in (sym (first_some (on t) f (fits (Address c.args.nwk)) c.first16-i.result (search rules) (address-first (on t) f c.args.nwk c.first16-i.result c.first16-i.ensures))))

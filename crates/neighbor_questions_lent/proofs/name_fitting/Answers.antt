@@ -1,8 +1,5 @@
 -- The first row that fits gives its address.
-use mathlib.Core.Option.{Option}
 use mathlib.Core.Path.{sym, ap}
-use Rattle.neighbor_table.specs.declared.NeighborEntry.{NeighborEntry}
-use Rattle.neighbor_table.specs.Lookup.{looked}
 use Rattle.neighbor_columns.specs.Codec.{neighbor_from}
 use Rattle.neighbor_columns.specs.Lent.{seen, with_keys}
 use Rattle.neighbor_queries.specs.Filter.{fits}
@@ -18,10 +15,10 @@ first_fitting-i-requires c =
 pub returns-then-count-i : goal.returns-then-count-i
 returns-then-count-i c =
     let on = seen c.args.keys.now c.args.nwks.now c.args.links.now c.args.count in
-    λ t f. ap (λ (o : Option NeighborEntry). name_in (looked o)) (sym (first-no (on t) f (fits c.args.filter) c.first_fitting-i.result (search rules) (c.first_fitting-i.ensures.1 (with_keys c.args.keys.now t) f)))
+    λ t f. ap name_in (sym (first-no (on t) f (fits c.args.filter) c.first_fitting-i.result (search rules) (c.first_fitting-i.ensures.1 (with_keys c.args.keys.now t) f)))
 
 pub returns : goal.returns
 unfolding neighbor_from
 returns c =
     let on = seen c.args.keys.now c.args.nwks.now c.args.links.now c.args.count in
-    λ t f. ap (λ (o : Option NeighborEntry). name_in (looked o)) (sym (first_some (on t) f (fits c.args.filter) c.first_fitting-i.result (search rules) (c.first_fitting-i.ensures.1 (with_keys c.args.keys.now t) f)))
+    λ t f. ap name_in (sym (first_some (on t) f (fits c.args.filter) c.first_fitting-i.result (search rules) (c.first_fitting-i.ensures.1 (with_keys c.args.keys.now t) f)))

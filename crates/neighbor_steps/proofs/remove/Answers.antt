@@ -14,16 +14,16 @@ pub remove_at-requires : goal.remove_at-requires
 remove_at-requires c =
     let a = c.args in
     let t = in_columns a.keys.now a.nwks.now a.links.now a.counts.now a.deadlines.now a.periods.now a.heard.now a.added.now a.beacons.now a.bytes.now a.count in
-    (in-places t c.requires _ (place-within t c.requires _ _ (sym c.in-Found.is ∙ c.place_of-place.ensures)), omega (arith, place-within t c.requires _ _ (sym c.in-Found.is ∙ c.place_of-place.ensures)))
+    (in-places t c.requires _ (place-within t c.requires _ _ (sym c.in-Ok.is ∙ c.place_of-place.ensures)), omega (arith, place-within t c.requires _ _ (sym c.in-Ok.is ∙ c.place_of-place.ensures)))
 
-pub returns-in-Found : goal.returns-in-Found
-returns-in-Found c =
+pub returns-in-Ok : goal.returns-in-Ok
+returns-in-Ok c =
     let a = c.args in
     let t = in_columns a.keys.now a.nwks.now a.links.now a.counts.now a.deadlines.now a.periods.now a.heard.now a.added.now a.beacons.now a.bytes.now a.count in
-    subst (λ (x : NeighborTable). Keeps x (ordered.remove neighbor_key a.eui64.0 (rows_of t))) (sym c.remove_at.ensures) (taken_out t c.requires _ _ (sym c.in-Found.is ∙ c.place_of-place.ensures))
+    subst (λ (x : NeighborTable). Keeps x (ordered.remove neighbor_key a.eui64.0 (rows_of t))) (sym c.remove_at.ensures) (taken_out t c.requires _ _ (sym c.in-Ok.is ∙ c.place_of-place.ensures))
 
-pub returns-in-Missing : goal.returns-in-Missing
-returns-in-Missing c =
+pub returns-in-Err : goal.returns-in-Err
+returns-in-Err c =
     let a = c.args in
     let t = in_columns a.keys.now a.nwks.now a.links.now a.counts.now a.deadlines.now a.periods.now a.heard.now a.added.now a.beacons.now a.bytes.now a.count in
-    none_out t c.requires _ _ (sym c.in-Missing.is ∙ c.place_of-place.ensures)
+    none_out t c.requires _ _ (sym c.in-Err.is ∙ c.place_of-place.ensures)

@@ -2,4 +2,4 @@
 use Rattle.neighbor_values.proofs.relationship.Goals as goal
 
 pub returns : goal.returns
-returns c = rw c.at_most-i.ensures
+returns c = rw c.min-i.ensures

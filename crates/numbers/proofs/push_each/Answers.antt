@@ -9,18 +9,18 @@ use Rattle.numbers.specs.Said.{pushed_all}
 use Rattle.numbers.proofs.Pushed.{put_one}
 use Rattle.numbers.proofs.push_each.Goals as goal
 
-pub loop-i-init : goal.loop-i-init
-loop-i-init c = (search rules, refl)
+pub loop-x-init : goal.loop-x-init
+loop-x-init c = (search rules, refl)
 
-pub loop-i-preserved : goal.loop-i-preserved
-loop-i-preserved c =
+pub loop-x-preserved : goal.loop-x-preserved
+loop-x-preserved c =
     let a = c.args in
-    let l = c.loop-i in
-    let h : l.i < length a.xs.now = search rules in
-    (search rules, ap (λ (m : Numbers). pushed_all m (drop (l.i + 1) a.xs.now)) c.push-m.ensures ∙ put_one l.m a.xs.now l.i h ∙ l.invariant.1)
+    let l = c.loop-x in
+    let h : l.x-index < length a.xs.now = search rules in
+    (search rules, ap (λ (m : Numbers). pushed_all m (drop (l.x-index + 1) a.xs.now)) c.push-m.ensures ∙ put_one l.m a.xs.now l.x-index h ∙ l.invariant.1)
 
 pub returns : goal.returns
 returns c =
-    let l = c.loop-i in
-    let h : length c.args.xs.now ≤ l.i = omega arith in
+    let l = c.loop-x in
+    let h : length c.args.xs.now ≤ l.x-index = omega arith in
     rw drop_of_length-le at l.invariant.1

@@ -11,18 +11,18 @@ place_of-place-requires c =
 
 pub offset_bounds-links-i : goal.offset_bounds-links-i
 offset_bounds-links-i c =
-    omega (arith, c.requires.small, c.requires.long.1.0, place-below c.args.keys.now c.args.count _ _ (omega (arith, c.requires.small, c.requires.long.0)) (sym c.in-Found.is ∙ c.place_of-place.ensures))
+    omega (arith, c.requires.small, c.requires.long.1.0, place-below c.args.keys.now c.args.count _ _ (omega (arith, c.requires.small, c.requires.long.0)) (sym c.in-Ok.is ∙ c.place_of-place.ensures))
 
 pub bounds-links-i : goal.bounds-links-i
 bounds-links-i c =
-    omega (arith, c.requires.small, c.requires.long.1.0, place-below c.args.keys.now c.args.count _ _ (omega (arith, c.requires.small, c.requires.long.0)) (sym c.in-Found.is ∙ c.place_of-place.ensures))
+    omega (arith, c.requires.small, c.requires.long.1.0, place-below c.args.keys.now c.args.count _ _ (omega (arith, c.requires.small, c.requires.long.0)) (sym c.in-Ok.is ∙ c.place_of-place.ensures))
 
-pub returns-in-Found : goal.returns-in-Found
-returns-in-Found c =
+pub returns-in-Ok : goal.returns-in-Ok
+returns-in-Ok c =
     let a = c.args in
-    c.judge.ensures ∙ ap (verdict_at a.confirm a.links.now) (sym c.in-Found.is ∙ c.place_of-place.ensures)
+    c.judge.ensures ∙ ap (verdict_at a.confirm a.links.now) (sym c.in-Ok.is ∙ c.place_of-place.ensures)
 
-pub returns-in-Missing : goal.returns-in-Missing
-returns-in-Missing c =
+pub returns-in-Err : goal.returns-in-Err
+returns-in-Err c =
     let a = c.args in
-    ap (verdict_at a.confirm a.links.now) (sym c.in-Missing.is ∙ c.place_of-place.ensures)
+    ap (verdict_at a.confirm a.links.now) (sym c.in-Err.is ∙ c.place_of-place.ensures)

@@ -16,4 +16,4 @@ pub returns-then-count-gt64 : goal.returns-then-count-gt64
 returns-then-count-gt64 c = formed-is (in_columns c.args.keys.now c.args.lengths.now c.args.count) (not_so (λ w. omega (arith, c.if-count-gt64.true, w.ordered.small)))
 
 pub returns : goal.returns
-returns c = formed-is (in_columns c.args.keys.now c.args.lengths.now c.args.count) (parts-told (in_columns c.args.keys.now c.args.lengths.now c.args.count) c.if-keys-ne64.false c.if-lengths-ne64.false c.if-count-gt64.false c.rising16-up.ensures c.zero_from16-no_keys.ensures c.zero_from8-no_lengths.ensures c.under8-few.ensures)
+returns c = formed-is (in_columns c.args.keys.now c.args.lengths.now c.args.count) (parts-told (in_columns c.args.keys.now c.args.lengths.now c.args.count) c.if-keys-ne64.false c.if-lengths-ne64.false c.if-count-gt64.false c.rising-up.ensures c.zero_from-no_keys.ensures c.zero_from-no_lengths.ensures c.under-few.ensures)

@@ -22,27 +22,6 @@ set_masks-requires c = (refl, λ j h. getD-blank 64 j 0 [] (omega arith))
 pub loop-i-init : goal.loop-i-init
 loop-i-init c = (c.set_masks.ensures, gathered_none _ _ _ refl (λ j h. getD-blank 32 j 0 [] (omega arith)))
 
-pub overflow_cast-n : goal.overflow_cast-n
-overflow_cast-n c = omega (arith, c.shared_slice_known-in-loop-i-1.given c.loop-i.i)
-
-pub overflow_sub-from : goal.overflow_sub-from
-overflow_sub-from c = elim c.if-n-gt32.branch [ then-n-gt32 u ↦ omega arith | else-n-gt32 u ↦ omega arith ]
-
-pub overflow_add-from : goal.overflow_add-from
-overflow_add-from c = elim c.if-n-gt32.branch [ then-n-gt32 u ↦ omega arith | else-n-gt32 u ↦ omega arith ]
-
-pub offset_bounds-masks-from : goal.offset_bounds-masks-from
-offset_bounds-masks-from c = elim c.if-n-gt32.branch [ then-n-gt32 u ↦ omega arith | else-n-gt32 u ↦ omega arith ]
-
-pub slice_bounds-mark-count-in-loop-i : goal.slice_bounds-mark-count-in-loop-i
-slice_bounds-mark-count-in-loop-i c = elim c.if-n-gt32.branch [ then-n-gt32 u ↦ omega arith | else-n-gt32 u ↦ omega arith ]
-
-pub slice_bounds-mark-start-in-loop-i : goal.slice_bounds-mark-start-in-loop-i
-slice_bounds-mark-start-in-loop-i c = elim c.if-n-gt32.branch [ then-n-gt32 u ↦ omega arith | else-n-gt32 u ↦ omega arith ]
-
-pub slice_bounds-mark-end-in-loop-i-2 : goal.slice_bounds-mark-end-in-loop-i-2
-slice_bounds-mark-end-in-loop-i-2 c = elim c.if-n-gt32.branch [ then-n-gt32 u ↦ omega arith | else-n-gt32 u ↦ omega arith ]
-
 pub loop-i-preserved : goal.loop-i-preserved
 loop-i-preserved c =
     let v = c.loop-i in
@@ -56,4 +35,4 @@ loop-i-preserved c =
 pub returns : goal.returns
 returns c =
     let v = c.loop-i in
-    tells-one (gathered-told _ _ v.over v.i (search rules) (omega arith) v.invariant.1 c.zero_from16.ensures) (agrees-told _ _)
+    tells-one (gathered-told _ _ v.over v.i (search rules) (omega arith) v.invariant.1 c.zero_from.ensures) (agrees-told _ _)

@@ -1,6 +1,4 @@
 -- At each turn the list holds the numbers passed as addresses, blank after them; at the end it holds those asked for.
--- The measure is the numbers left.
-use Prim.Native.Nat.{◌≤◌, ◌-◌}
 use mathlib.Core.List.{map}
 use mathlib.Core.Path.{◌≡◌}
 use lib.ListN.{take}
@@ -9,7 +7,4 @@ use Rattle.flat_map.specs.Rows.{pad}
 use Rattle.relay_store.proofs.read_row.Given as goal
 
 abbrev pub invariant-loop-i : goal.invariant-loop-i
-invariant-loop-i l = (l.i ≤ l.count) × (l.l.addresses ≡ pad 32 (nwk 0) (map nwk (take l.i l.row)))
-
-abbrev pub decreases-loop-i : goal.decreases-loop-i
-decreases-loop-i l = l.count - l.i
+invariant-loop-i l = l.l.addresses ≡ pad 32 (nwk 0) (map nwk (take l.i l.row))

@@ -2,8 +2,8 @@
 use mathlib.Core.Path.{◌∙◌}
 use Rattle.route_answers.proofs.done_answer.Goals as goal
 
-pub returns-in-Refused : goal.returns-in-Refused
-returns-in-Refused c = c.refused.ensures ∙ rw c.in-Refused.is
+pub returns-in-Err : goal.returns-in-Err
+returns-in-Err c = c.refused.ensures ∙ rw c.in-Err.is
 
-pub returns-in-Done : goal.returns-in-Done
-returns-in-Done c = c.done.ensures ∙ rw c.in-Done.is
+pub returns-in-Ok : goal.returns-in-Ok
+returns-in-Ok c = c.done.ensures ∙ rw c.in-Ok.is

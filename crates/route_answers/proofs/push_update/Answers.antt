@@ -2,8 +2,8 @@
 use mathlib.Core.Path.{◌∙◌}
 use Rattle.route_answers.proofs.push_update.Goals as goal
 
-pub returns-in-Same : goal.returns-in-Same
-returns-in-Same c = c.push.ensures ∙ rw c.in-Same.is
+pub returns-in-None : goal.returns-in-None
+returns-in-None c = c.push.ensures ∙ rw c.in-None.is
 
-pub returns-in-Changed : goal.returns-in-Changed
-returns-in-Changed c = c.push_each.ensures ∙ rw c.in-Changed.is
+pub returns-in-Some : goal.returns-in-Some
+returns-in-Some c = c.push_each.ensures ∙ rw c.in-Some.is

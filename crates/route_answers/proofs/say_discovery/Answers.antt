@@ -2,8 +2,8 @@
 use mathlib.Core.Path.{◌∙◌}
 use Rattle.route_answers.proofs.say_discovery.Goals as goal
 
-pub returns-in-Missing : goal.returns-in-Missing
-returns-in-Missing c = c.said.ensures ∙ rw c.in-Missing.is
+pub returns-in-None : goal.returns-in-None
+returns-in-None c = c.said.ensures ∙ rw c.in-None.is
 
-pub returns-in-Found : goal.returns-in-Found
-returns-in-Found c = c.discovery_values.ensures ∙ rw c.in-Found.is
+pub returns-in-Some : goal.returns-in-Some
+returns-in-Some c = c.discovery_values.ensures ∙ rw c.in-Some.is

@@ -2,8 +2,8 @@
 use mathlib.Core.Path.{◌∙◌}
 use Rattle.route_answers.proofs.status_answer.Goals as goal
 
-pub returns-in-Refused : goal.returns-in-Refused
-returns-in-Refused c = c.refused.ensures ∙ rw c.in-Refused.is
+pub returns-in-Err : goal.returns-in-Err
+returns-in-Err c = c.refused.ensures ∙ rw c.in-Err.is
 
-pub returns-in-Answered : goal.returns-in-Answered
-returns-in-Answered c = c.say_status.ensures ∙ rw c.in-Answered.is
+pub returns-in-Ok : goal.returns-in-Ok
+returns-in-Ok c = c.say_status.ensures ∙ rw c.in-Ok.is

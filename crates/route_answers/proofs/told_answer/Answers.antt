@@ -2,8 +2,8 @@
 use mathlib.Core.Path.{◌∙◌}
 use Rattle.route_answers.proofs.told_answer.Goals as goal
 
-pub returns-in-Refused : goal.returns-in-Refused
-returns-in-Refused c = c.refused.ensures ∙ rw c.in-Refused.is
+pub returns-in-Err : goal.returns-in-Err
+returns-in-Err c = c.refused.ensures ∙ rw c.in-Err.is
 
-pub returns-in-Told : goal.returns-in-Told
-returns-in-Told c = c.said.ensures ∙ rw (c.flag_number-x.ensures, c.in-Told.is)
+pub returns-in-Ok : goal.returns-in-Ok
+returns-in-Ok c = c.said.ensures ∙ rw (c.flag_number-x.ensures, c.in-Ok.is)

@@ -1,6 +1,5 @@
 -- At each turn the list holds the relays passed, blank after them; at the end it holds those that were to be read.
--- The measure is the relays left.
-use Prim.Native.Nat.{◌+◌, ◌-◌, ◌≤◌}
+use Prim.Native.Nat.{◌+◌}
 use mathlib.Core.List.{map}
 use mathlib.Core.Path.{◌≡◌}
 use lib.ListN.{take, drop}
@@ -10,7 +9,4 @@ use Rattle.route_args.specs.Read.{cut_nwk}
 use Rattle.route_args.proofs.relays.Given as goal
 
 abbrev pub invariant-loop-i : goal.invariant-loop-i
-invariant-loop-i l = (l.i ≤ l.count) × (l.l.count ≡ l.count) × (l.l.addresses ≡ pad 32 (nwk 0) (map cut_nwk (take l.i (drop (l.from + 1) l.args))))
-
-abbrev pub decreases-loop-i : goal.decreases-loop-i
-decreases-loop-i l = l.count - l.i
+invariant-loop-i l = (l.l.count ≡ l.count) × (l.l.addresses ≡ pad 32 (nwk 0) (map cut_nwk (take l.i (drop (l.from + 1) l.args))))

@@ -1,9 +1,9 @@
 -- By the time sum: past the clock's end it is refused, else the new entry stands under the pair by its own fields.
 -- Assumes nothing.
+use Rattle.std.specs.Prelude.{Option}
 use Prim.Native.Nat.{ℕ}
 use mathlib.Core.Path.{sym, ap, ◌∙◌}
 use Rattle.types.specs.declared.Refusal.TheVariants.{TimePastEnd}
-use Rattle.types.specs.declared.Sum.{Sum}
 use Rattle.standard.specs.declared.DiscoveryEntry.{DiscoveryEntry}
 use Rattle.standard.specs.Begin.{own_discovery}
 use Rattle.standard.specs.Discovery.{discovery_key}
@@ -36,20 +36,20 @@ shape_of-discovery_words c = c.advertise_with.ensures.left.formed.discoveries.or
 pub shape_of-discovery_ends : goal.shape_of-discovery_ends
 shape_of-discovery_ends c = c.advertise_with.ensures.left.formed.discoveries.ordered.long.1.1.0 ∙ sym c.requires.discoveries.ordered.long.1.1.0
 
-pub returns-in-At : goal.returns-in-At
-returns-in-At c =
+pub returns-in-Some : goal.returns-in-Some
+returns-in-Some c =
     let a = c.args in
     let t = in_columns a.route_keys.now a.route_words.now a.route_usage.now a.routes a.discovery_keys.now a.discovery_words.now a.discovery_ends.now a.discoveries in
     let left = expired a.now_ms (tables_of t) in
     leaves-as _ _ _ _
     (ap (λ (d : DiscoveryEntry). begun_with (tables_of t) a.id (noted d left)) c.own_discovery-d.ensures
-    ∙ ap (λ (z : Sum). by_time (tables_of t) z a.id (λ (e : ℕ). noted (own_discovery a.own a.id e (nwk 0xFFFC)) left)) (sym c.in-At.is ∙ c.time_sum-sum.ensures)
+    ∙ ap (λ (z : Option ℕ). by_time (tables_of t) z a.id (λ (e : ℕ). noted (own_discovery a.own a.id e (nwk 0xFFFC)) left)) (sym c.in-Some.is ∙ c.time_sum-sum.ensures)
     ∙ sym (advertised-is a.own a.id a.now_ms a.span (tables_of t)))
     c.advertise_with.ensures
 
-pub returns-in-Past : goal.returns-in-Past
-returns-in-Past c =
+pub returns-in-None : goal.returns-in-None
+returns-in-None c =
     let a = c.args in
     let t = in_columns a.route_keys.now a.route_words.now a.route_usage.now a.routes a.discovery_keys.now a.discovery_words.now a.discovery_ends.now a.discoveries in
     let left = expired a.now_ms (tables_of t) in
-    leaves-refused t c.requires TimePastEnd _ c.refuse.ensures _ (advertised-is a.own a.id a.now_ms a.span (tables_of t) ∙ ap (λ (z : Sum). by_time (tables_of t) z a.id (λ (e : ℕ). noted (own_discovery a.own a.id e (nwk 0xFFFC)) left)) (sym c.time_sum-sum.ensures ∙ c.in-Past.is))
+    leaves-refused t c.requires TimePastEnd _ c.refuse.ensures _ (advertised-is a.own a.id a.now_ms a.span (tables_of t) ∙ ap (λ (z : Option ℕ). by_time (tables_of t) z a.id (λ (e : ℕ). noted (own_discovery a.own a.id e (nwk 0xFFFC)) left)) (sym c.time_sum-sum.ensures ∙ c.in-None.is))

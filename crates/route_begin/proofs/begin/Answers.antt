@@ -17,50 +17,50 @@ begin_known-requires c = c.requires
 pub begin_new-requires : goal.begin_new-requires
 begin_new-requires c = c.requires
 
-pub shape_of-route_keys-in-Found : goal.shape_of-route_keys-in-Found
-shape_of-route_keys-in-Found c = c.begin_known.ensures.left.formed.routes.ordered.long.0 ∙ sym c.requires.routes.ordered.long.0
+pub shape_of-route_keys-in-Some : goal.shape_of-route_keys-in-Some
+shape_of-route_keys-in-Some c = c.begin_known.ensures.left.formed.routes.ordered.long.0 ∙ sym c.requires.routes.ordered.long.0
 
-pub shape_of-route_words-in-Found : goal.shape_of-route_words-in-Found
-shape_of-route_words-in-Found c = c.begin_known.ensures.left.formed.routes.ordered.long.1.0 ∙ sym c.requires.routes.ordered.long.1.0
+pub shape_of-route_words-in-Some : goal.shape_of-route_words-in-Some
+shape_of-route_words-in-Some c = c.begin_known.ensures.left.formed.routes.ordered.long.1.0 ∙ sym c.requires.routes.ordered.long.1.0
 
-pub shape_of-route_usage-in-Found : goal.shape_of-route_usage-in-Found
-shape_of-route_usage-in-Found c = c.begin_known.ensures.left.formed.routes.ordered.long.1.1.0 ∙ sym c.requires.routes.ordered.long.1.1.0
+pub shape_of-route_usage-in-Some : goal.shape_of-route_usage-in-Some
+shape_of-route_usage-in-Some c = c.begin_known.ensures.left.formed.routes.ordered.long.1.1.0 ∙ sym c.requires.routes.ordered.long.1.1.0
 
-pub shape_of-discovery_keys-in-Found : goal.shape_of-discovery_keys-in-Found
-shape_of-discovery_keys-in-Found c = c.begin_known.ensures.left.formed.discoveries.ordered.long.0 ∙ sym c.requires.discoveries.ordered.long.0
+pub shape_of-discovery_keys-in-Some : goal.shape_of-discovery_keys-in-Some
+shape_of-discovery_keys-in-Some c = c.begin_known.ensures.left.formed.discoveries.ordered.long.0 ∙ sym c.requires.discoveries.ordered.long.0
 
-pub shape_of-discovery_words-in-Found : goal.shape_of-discovery_words-in-Found
-shape_of-discovery_words-in-Found c = c.begin_known.ensures.left.formed.discoveries.ordered.long.1.0 ∙ sym c.requires.discoveries.ordered.long.1.0
+pub shape_of-discovery_words-in-Some : goal.shape_of-discovery_words-in-Some
+shape_of-discovery_words-in-Some c = c.begin_known.ensures.left.formed.discoveries.ordered.long.1.0 ∙ sym c.requires.discoveries.ordered.long.1.0
 
-pub shape_of-discovery_ends-in-Found : goal.shape_of-discovery_ends-in-Found
-shape_of-discovery_ends-in-Found c = c.begin_known.ensures.left.formed.discoveries.ordered.long.1.1.0 ∙ sym c.requires.discoveries.ordered.long.1.1.0
+pub shape_of-discovery_ends-in-Some : goal.shape_of-discovery_ends-in-Some
+shape_of-discovery_ends-in-Some c = c.begin_known.ensures.left.formed.discoveries.ordered.long.1.1.0 ∙ sym c.requires.discoveries.ordered.long.1.1.0
 
-pub returns-in-Found : goal.returns-in-Found
-returns-in-Found c =
+pub returns-in-Some : goal.returns-in-Some
+returns-in-Some c =
     let a = c.args in
     let old = tables_of (in_columns a.route_keys.now a.route_words.now a.route_usage.now a.routes a.discovery_keys.now a.discovery_words.now a.discovery_ends.now a.discoveries) in
-    leaves-as _ _ _ _ (sym (begun-known a.own a.id a.now_ms a.span old a.destination _ (looked-found (lookup discovery_key (pair_key a.own a.id) (keep (live a.now_ms) old.discoveries)) _ (sym c.in-Found.is ∙ c.find_live-found.ensures)))) c.begin_known.ensures
+    leaves-as _ _ _ _ (sym (begun-known a.own a.id a.now_ms a.span old a.destination _ (looked-found (lookup discovery_key (pair_key a.own a.id) (keep (live a.now_ms) old.discoveries)) _ (sym c.in-Some.is ∙ c.find_live-found.ensures)))) c.begin_known.ensures
 
-pub shape_of-route_keys-in-Missing : goal.shape_of-route_keys-in-Missing
-shape_of-route_keys-in-Missing c = c.begin_new.ensures.left.formed.routes.ordered.long.0 ∙ sym c.requires.routes.ordered.long.0
+pub shape_of-route_keys-in-None : goal.shape_of-route_keys-in-None
+shape_of-route_keys-in-None c = c.begin_new.ensures.left.formed.routes.ordered.long.0 ∙ sym c.requires.routes.ordered.long.0
 
-pub shape_of-route_words-in-Missing : goal.shape_of-route_words-in-Missing
-shape_of-route_words-in-Missing c = c.begin_new.ensures.left.formed.routes.ordered.long.1.0 ∙ sym c.requires.routes.ordered.long.1.0
+pub shape_of-route_words-in-None : goal.shape_of-route_words-in-None
+shape_of-route_words-in-None c = c.begin_new.ensures.left.formed.routes.ordered.long.1.0 ∙ sym c.requires.routes.ordered.long.1.0
 
-pub shape_of-route_usage-in-Missing : goal.shape_of-route_usage-in-Missing
-shape_of-route_usage-in-Missing c = c.begin_new.ensures.left.formed.routes.ordered.long.1.1.0 ∙ sym c.requires.routes.ordered.long.1.1.0
+pub shape_of-route_usage-in-None : goal.shape_of-route_usage-in-None
+shape_of-route_usage-in-None c = c.begin_new.ensures.left.formed.routes.ordered.long.1.1.0 ∙ sym c.requires.routes.ordered.long.1.1.0
 
-pub shape_of-discovery_keys-in-Missing : goal.shape_of-discovery_keys-in-Missing
-shape_of-discovery_keys-in-Missing c = c.begin_new.ensures.left.formed.discoveries.ordered.long.0 ∙ sym c.requires.discoveries.ordered.long.0
+pub shape_of-discovery_keys-in-None : goal.shape_of-discovery_keys-in-None
+shape_of-discovery_keys-in-None c = c.begin_new.ensures.left.formed.discoveries.ordered.long.0 ∙ sym c.requires.discoveries.ordered.long.0
 
-pub shape_of-discovery_words-in-Missing : goal.shape_of-discovery_words-in-Missing
-shape_of-discovery_words-in-Missing c = c.begin_new.ensures.left.formed.discoveries.ordered.long.1.0 ∙ sym c.requires.discoveries.ordered.long.1.0
+pub shape_of-discovery_words-in-None : goal.shape_of-discovery_words-in-None
+shape_of-discovery_words-in-None c = c.begin_new.ensures.left.formed.discoveries.ordered.long.1.0 ∙ sym c.requires.discoveries.ordered.long.1.0
 
-pub shape_of-discovery_ends-in-Missing : goal.shape_of-discovery_ends-in-Missing
-shape_of-discovery_ends-in-Missing c = c.begin_new.ensures.left.formed.discoveries.ordered.long.1.1.0 ∙ sym c.requires.discoveries.ordered.long.1.1.0
+pub shape_of-discovery_ends-in-None : goal.shape_of-discovery_ends-in-None
+shape_of-discovery_ends-in-None c = c.begin_new.ensures.left.formed.discoveries.ordered.long.1.1.0 ∙ sym c.requires.discoveries.ordered.long.1.1.0
 
-pub returns-in-Missing : goal.returns-in-Missing
-returns-in-Missing c =
+pub returns-in-None : goal.returns-in-None
+returns-in-None c =
     let a = c.args in
     let old = tables_of (in_columns a.route_keys.now a.route_words.now a.route_usage.now a.routes a.discovery_keys.now a.discovery_words.now a.discovery_ends.now a.discoveries) in
-    leaves-as _ _ _ _ (sym (begun-new a.own a.id a.now_ms a.span old a.destination (looked-missing (lookup discovery_key (pair_key a.own a.id) (keep (live a.now_ms) old.discoveries)) (sym c.in-Missing.is ∙ c.find_live-found.ensures)))) c.begin_new.ensures
+    leaves-as _ _ _ _ (sym (begun-new a.own a.id a.now_ms a.span old a.destination (looked-missing (lookup discovery_key (pair_key a.own a.id) (keep (live a.now_ms) old.discoveries)) (sym c.in-None.is ∙ c.find_live-found.ensures)))) c.begin_new.ensures

@@ -1,27 +1,12 @@
 -- The first faulty row of those that are left is the first of all rows, since none of those passed is faulty.
--- The measure is the rows left.
-use Prim.Native.Nat.{◌-◌}
-use mathlib.Core.Path.{refl, sym, ap, ◌∙◌}
+use mathlib.Core.Path.{sym, ap, ◌∙◌}
 use Rattle.standard.specs.Calls.{is_faulty, first_fault}
 use Rattle.flat_map.proofs.Query.{first-here, first_past, first_done}
 use Rattle.discovery_table.specs.Table as discovery
 use Rattle.route_table.specs.Table.{in_columns}
-use Rattle.route_table.proofs.Rows.{in-columns}
 use Rattle.route_calls.specs.Answer.{checked_by}
 use Rattle.route_calls.proofs.Rules.{next-route, no-route}
 use Rattle.route_calls.proofs.check.Goals as goal
-
-pub loop-i-init : goal.loop-i-init
-loop-i-init c = refl
-
-pub entry_at-e-requires : goal.entry_at-e-requires
-entry_at-e-requires c =
-    let a = c.args in
-    let t = in_columns a.route_keys.now a.route_words.now a.route_usage.now a.routes in
-    in-columns t c.requires.0 _ c.loop-i-test.true
-
-pub is_faulty-requires : goal.is_faulty-requires
-is_faulty-requires c = c.requires.1
 
 pub returns-then-is_faulty : goal.returns-then-is_faulty
 unfolding first_fault

@@ -1,6 +1,4 @@
 -- The first faulty row of those that are left is the first of all rows, since none of those passed is faulty.
--- The measure is the rows left.
-use Prim.Native.Nat.{◌-◌}
 use mathlib.Core.Path.{◌≡◌}
 use lib.ListN.{drop}
 use Rattle.standard.specs.Calls.{is_faulty}
@@ -13,6 +11,3 @@ abbrev pub invariant-loop-i : goal.invariant-loop-i
 invariant-loop-i l =
     first (is_faulty (discovery.rows_of (discovery.in_columns l.discovery_keys l.discovery_words l.discovery_ends l.discoveries))) (drop l.i (rows_of (in_columns l.route_keys l.route_words l.route_usage l.routes)))
     ≡ first (is_faulty (discovery.rows_of (discovery.in_columns l.discovery_keys l.discovery_words l.discovery_ends l.discoveries))) (rows_of (in_columns l.route_keys l.route_words l.route_usage l.routes))
-
-abbrev pub decreases-loop-i : goal.decreases-loop-i
-decreases-loop-i l = l.routes - l.i

@@ -1,6 +1,6 @@
 -- By what the look-up finds, as the definition goes.
 -- Assumes nothing.
-use mathlib.Core.Option.{Option}
+use Rattle.std.specs.Prelude.{Option}
 use mathlib.Core.Path.{sym, ap, ◌∙◌}
 use Rattle.standard.specs.declared.RouteEntry.{RouteEntry}
 use Rattle.standard.specs.Calls.{active_hop, hop_at}
@@ -23,4 +23,4 @@ unfolding hop_at
 returns c =
     let a = c.args in
     let t = in_columns a.route_keys.now a.route_words.now a.route_usage.now a.routes in
-    c.hop_of.ensures ∙ sym (ap (λ (o : Option RouteEntry). hop_answer (active_hop o)) (looked-found (lookup route_key a.destination.0 (rows_of t)) _ (sym c.in-Found.is ∙ c.find.ensures)))
+    c.hop_of.ensures ∙ sym (ap (λ (o : Option RouteEntry). hop_answer (active_hop o)) (looked-found (lookup route_key a.destination.0 (rows_of t)) _ (sym c.in-Some.is ∙ c.find.ensures)))

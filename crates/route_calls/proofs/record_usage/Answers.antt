@@ -17,16 +17,16 @@ pub entry_at-e-requires : goal.entry_at-e-requires
 entry_at-e-requires c =
     let a = c.args in
     let t = in_columns a.route_keys.now a.route_words.now a.route_usage.now a.routes in
-    in-columns t c.requires _ (place-within t c.requires a.destination.0 _ (sym c.in-Found.is ∙ c.place_of.ensures))
+    in-columns t c.requires _ (place-within t c.requires a.destination.0 _ (sym c.in-Ok.is ∙ c.place_of.ensures))
 
 pub set_at-requires : goal.set_at-requires
 set_at-requires c =
     let a = c.args in
     let t = in_columns a.route_keys.now a.route_words.now a.route_usage.now a.routes in
-    (c.requires, change-place t c.requires a.destination.0 _ used (sym c.in-Found.is ∙ c.place_of.ensures) _ _ c.entry_at-e.ensures c.used.ensures used-key)
+    (c.requires, change-place t c.requires a.destination.0 _ used (sym c.in-Ok.is ∙ c.place_of.ensures) _ _ c.entry_at-e.ensures c.used.ensures used-key)
 
 pub returns : goal.returns
 returns c =
     let a = c.args in
     let t = in_columns a.route_keys.now a.route_words.now a.route_usage.now a.routes in
-    changed t c.requires a.destination.0 _ used (sym c.in-Found.is ∙ c.place_of.ensures) _ _ c.entry_at-e.ensures c.used.ensures _ c.set_at.ensures
+    changed t c.requires a.destination.0 _ used (sym c.in-Ok.is ∙ c.place_of.ensures) _ _ c.entry_at-e.ensures c.used.ensures _ c.set_at.ensures

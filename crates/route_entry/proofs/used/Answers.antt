@@ -3,4 +3,4 @@
 use Rattle.route_entry.proofs.used.Goals as goal
 
 pub returns : goal.returns
-returns c = rw (c.saturating_add_u8.ensures, c.saturating_add_u32.ensures)
+returns c = rw (c.saturating_add-2.ensures, c.saturating_add.ensures)

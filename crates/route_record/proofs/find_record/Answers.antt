@@ -15,4 +15,4 @@ pub returns : goal.returns
 returns c =
     let a = c.args in
     let t = in_columns a.keys.now a.lengths.now a.count in
-    found-found t a.store.now c.requires a.destination _ (sym c.in-Found.is ∙ c.place_of-place.ensures) _ c.record_at.ensures
+    found-found t a.store.now c.requires a.destination _ (sym c.in-Ok.is ∙ c.place_of-place.ensures) _ c.record_at.ensures

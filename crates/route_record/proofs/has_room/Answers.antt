@@ -1,6 +1,5 @@
 -- At each turn the count is that of the addresses with the relays passed; where the relays and the source are few enough, all of them fit.
--- The measure is the relays left.
-use Prim.Native.Nat.{ℕ, ◌-◌}
+use Prim.Native.Nat.{ℕ}
 use native.Mathlib.Omega.{arith}
 use mathlib.Core.List.{List}
 use mathlib.Core.Path.{◌≡◌, sym, ap, ◌∙◌}
@@ -20,9 +19,6 @@ use Rattle.route_record.proofs.Room.{addresses_of, source-last, counted_none, co
 use borrow.Author.Rules.{rules}
 use Rattle.route_record.proofs.has_room.Goals as goal
 
-pub overflow_add-count : goal.overflow_add-count
-overflow_add-count c = omega (arith, c.requires.0.ordered.small)
-
 pub returns-then-count-n-lt64 : goal.returns-then-count-n-lt64
 returns-then-count-n-lt64 c =
     let a = c.args in
@@ -33,10 +29,7 @@ returns-then-count-n-lt64 c =
     sym (le-leb _ 64 (all_fit t w a.source (relays_of l) (omega (arith, relays-count l long c.requires.1, c.if-count-n-lt64.true))))
 
 pub loop-i-init : goal.loop-i-init
-loop-i-init c = (search rules, omega (arith, c.requires.0.ordered.small), counted_none _ c.requires.0)
-
-pub overflow_add-total : goal.overflow_add-total
-overflow_add-total c = omega (arith, bit-few c.is_new-new.result)
+loop-i-init c = (omega (arith, c.requires.0.ordered.small), counted_none _ c.requires.0)
 
 pub loop-i-preserved : goal.loop-i-preserved
 loop-i-preserved c =
@@ -47,15 +40,11 @@ loop-i-preserved c =
     let long : length l.addresses ≡ 32 = search (rules, unmapped) in
     let v = c.loop-i in
     let b = get_or l.addresses v.i (nwk 0) in (
-      search rules,
       omega (arith, bit-few c.is_new-new.result),
-      counted-more t w (take v.i (relays_of l)) b _ _ c.is_new-new.ensures v.invariant.2
+      counted-more t w (take v.i (relays_of l)) b _ _ c.is_new-new.ensures v.invariant.1
           ∙ ap length (source-last b (take v.i (relays_of l)) (addresses_of t))
           ∙ ap (λ (rs : List Nwk). length (with_relays rs (addresses_of t))) (sym (relays-more l long c.requires.1 v.i (omega arith))),
     )
-
-pub overflow_add-total-2 : goal.overflow_add-total-2
-overflow_add-total-2 c = omega (arith, bit-few c.is_new-last.result)
 
 pub returns : goal.returns
 returns c =
@@ -68,5 +57,5 @@ returns c =
     let all = take_all l.count (relays_of l) (omega (arith, relays-count l long c.requires.1)) in
     let n : v.i ≡ l.count = omega arith in
     ap (λ (m : ℕ). leb m 64)
-    (counted-more t w (take l.count (relays_of l)) a.source _ _ c.is_new-last.ensures (rw n at v.invariant.2)
+    (counted-more t w (take l.count (relays_of l)) a.source _ _ c.is_new-last.ensures (rw n at v.invariant.1)
     ∙ ap (λ (rs : List Nwk). length (with_address a.source (with_relays rs (addresses_of t)))) all)

@@ -1,6 +1,5 @@
 -- At each turn the count is that of the addresses with the relays passed; where the relays and the source are few enough, all of them fit.
--- The measure is the relays left.
-use Prim.Native.Nat.{◌+◌, ◌-◌, ◌≤◌}
+use Prim.Native.Nat.{◌+◌, ◌≤◌}
 use mathlib.Core.Path.{◌≡◌}
 use lib.ListN.{length, take}
 use Rattle.record_table.specs.Table.{in_columns}
@@ -10,7 +9,4 @@ use Rattle.route_record.proofs.Room.{addresses_of}
 use Rattle.route_record.proofs.has_room.Given as goal
 
 abbrev pub invariant-loop-i : goal.invariant-loop-i
-invariant-loop-i l = (l.i ≤ l.n) × (l.total ≤ 64 + l.i) × (l.total ≡ length (with_relays (take l.i (relays_of l.relays)) (addresses_of (in_columns l.keys l.lengths l.count))))
-
-abbrev pub decreases-loop-i : goal.decreases-loop-i
-decreases-loop-i l = l.n - l.i
+invariant-loop-i l = (l.total ≤ 64 + l.i) × (l.total ≡ length (with_relays (take l.i (relays_of l.relays)) (addresses_of (in_columns l.keys l.lengths l.count))))

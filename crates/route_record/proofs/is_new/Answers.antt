@@ -8,14 +8,14 @@ use Rattle.relay_store.specs.Store.{relays_of}
 use Rattle.route_record.proofs.Room.{known-told, missing-told}
 use Rattle.route_record.proofs.is_new.Goals as goal
 
-pub returns-in-Found : goal.returns-in-Found
-returns-in-Found c =
+pub returns-in-Ok : goal.returns-in-Ok
+returns-in-Ok c =
     let a = c.args in
     let t = in_columns a.keys.now a.lengths.now a.count in
-    known-told t a.a (take a.before (relays_of a.relays)) (found-row t c.requires.0 a.a.0 _ (sym c.in-Found.is ∙ c.place_of-place.ensures))
+    known-told t a.a (take a.before (relays_of a.relays)) (found-row t c.requires.0 a.a.0 _ (sym c.in-Ok.is ∙ c.place_of-place.ensures))
 
-pub returns-in-Missing : goal.returns-in-Missing
-returns-in-Missing c =
+pub returns-in-Err : goal.returns-in-Err
+returns-in-Err c =
     let a = c.args in
     let t = in_columns a.keys.now a.lengths.now a.count in
-    rw c.is_among.ensures (missing-told t a.a (take a.before (relays_of a.relays)) (missing-row t c.requires.0 a.a.0 _ (sym c.in-Missing.is ∙ c.place_of-place.ensures)))
+    rw c.is_among.ensures (missing-told t a.a (take a.before (relays_of a.relays)) (missing-row t c.requires.0 a.a.0 _ (sym c.in-Err.is ∙ c.place_of-place.ensures)))

@@ -16,16 +16,16 @@ pub shift_rows_down-requires : goal.shift_rows_down-requires
 shift_rows_down-requires c =
     let a = c.args in
     let t = in_columns a.keys.now a.lengths.now a.count in
-    (within t a.store.now c.requires _ _ (sym c.in-Found.is ∙ c.place_of-place.ensures), c.requires.agrees.places)
+    (within t a.store.now c.requires _ _ (sym c.in-Ok.is ∙ c.place_of-place.ensures), c.requires.agrees.places)
 
 pub remove_at-records-requires : goal.remove_at-records-requires
 remove_at-records-requires c =
     let a = c.args in
     let t = in_columns a.keys.now a.lengths.now a.count in
-    (c.requires.formed, sym c.in-Found.is ∙ c.place_of-place.ensures)
+    (c.requires.formed, sym c.in-Ok.is ∙ c.place_of-place.ensures)
 
 pub returns : goal.returns
 returns c =
     let a = c.args in
     let t = in_columns a.keys.now a.lengths.now a.count in
-    removed-in t a.store.now c.requires a.destination _ (sym c.in-Found.is ∙ c.place_of-place.ensures) _ _ c.remove_at-records.ensures c.shift_rows_down.ensures
+    removed-in t a.store.now c.requires a.destination _ (sym c.in-Ok.is ∙ c.place_of-place.ensures) _ _ c.remove_at-records.ensures c.shift_rows_down.ensures

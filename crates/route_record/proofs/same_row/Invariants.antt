@@ -1,6 +1,4 @@
 -- At each turn the answer so far and the comparison of the rests give that of the whole; lists of other lengths differ.
--- The measure is the relays left.
-use Prim.Native.Nat.{◌-◌}
 use mathlib.Core.Bool.{◌&&◌}
 use mathlib.Core.List.{map}
 use mathlib.Core.Path.{◌≡◌}
@@ -12,6 +10,3 @@ use Rattle.route_record.proofs.same_row.Given as goal
 
 abbrev pub invariant-loop-i : goal.invariant-loop-i
 invariant-loop-i l = (l.same && same_relays (drop l.i (map nwk (take l.count l.row))) (drop l.i (relays_of l.l))) ≡ same_relays (map nwk (take l.count l.row)) (relays_of l.l)
-
-abbrev pub decreases-loop-i : goal.decreases-loop-i
-decreases-loop-i l = l.count - l.i

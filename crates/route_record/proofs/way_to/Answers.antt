@@ -17,28 +17,28 @@ pub bounds-lengths-i : goal.bounds-lengths-i
 bounds-lengths-i c =
     let a = c.args in
     let t = in_columns a.keys.now a.lengths.now a.count in
-    omega (arith, within t a.store.now c.requires _ _ (sym c.in-Found.is ∙ c.place_of-place.ensures), c.requires.formed.ordered.long.1.0)
+    omega (arith, within t a.store.now c.requires _ _ (sym c.in-Ok.is ∙ c.place_of-place.ensures), c.requires.formed.ordered.long.1.0)
 
 pub returns-then-n-eq0 : goal.returns-then-n-eq0
 returns-then-n-eq0 c =
     let a = c.args in
     let t = in_columns a.keys.now a.lengths.now a.count in
-    found-direct t a.store.now c.requires a.destination a.limit _ _ (sym c.in-Found.is ∙ c.place_of-place.ensures) c.if-n-eq0.true c.no_relays-then-n-eq0.ensures
+    found-direct t a.store.now c.requires a.destination a.limit _ _ (sym c.in-Ok.is ∙ c.place_of-place.ensures) c.if-n-eq0.true c.no_relays-then-n-eq0.ensures
 
 pub relays_at-requires : goal.relays_at-requires
 relays_at-requires c =
     let a = c.args in
     let t = in_columns a.keys.now a.lengths.now a.count in
-    (use-few t a.store.now c.requires _, within t a.store.now c.requires _ _ (sym c.in-Found.is ∙ c.place_of-place.ensures), c.requires.agrees.places)
+    (use-few t a.store.now c.requires _, within t a.store.now c.requires _ _ (sym c.in-Ok.is ∙ c.place_of-place.ensures), c.requires.agrees.places)
 
 pub returns-then-n-limit : goal.returns-then-n-limit
 returns-then-n-limit c =
     let a = c.args in
     let t = in_columns a.keys.now a.lengths.now a.count in
-    found-source t a.store.now c.requires a.destination a.limit _ _ (sym c.in-Found.is ∙ c.place_of-place.ensures) c.if-n-eq0.false c.if-n-limit.true c.relays_at.ensures
+    found-source t a.store.now c.requires a.destination a.limit _ _ (sym c.in-Ok.is ∙ c.place_of-place.ensures) c.if-n-eq0.false c.if-n-limit.true c.relays_at.ensures
 
 pub returns : goal.returns
 returns c =
     let a = c.args in
     let t = in_columns a.keys.now a.lengths.now a.count in
-    found_none t a.store.now c.requires a.destination a.limit _ _ (sym c.in-Found.is ∙ c.place_of-place.ensures) c.if-n-eq0.false c.if-n-limit.false c.no_relays-2.ensures
+    found_none t a.store.now c.requires a.destination a.limit _ _ (sym c.in-Ok.is ∙ c.place_of-place.ensures) c.if-n-eq0.false c.if-n-limit.false c.no_relays-2.ensures

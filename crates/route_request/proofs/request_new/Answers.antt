@@ -1,10 +1,9 @@
 -- By the time sum: past the clock's end it is refused, else the new discovery stands under the pair by its own fields.
 -- Assumes nothing.
+use Rattle.std.specs.Prelude.{Option, None}
 use Prim.Native.Nat.{ℕ}
-use mathlib.Core.Option.{none}
 use mathlib.Core.Path.{sym, ap, ◌∙◌}
 use Rattle.types.specs.declared.Refusal.TheVariants.{TimePastEnd}
-use Rattle.types.specs.declared.Sum.{Sum}
 use Rattle.standard.specs.declared.DiscoveryEntry.{DiscoveryEntry}
 use Rattle.standard.specs.Discovery.{discovery_key}
 use Rattle.standard.specs.Expiry.{expired}
@@ -35,22 +34,22 @@ shape_of-discovery_words c = c.accept.ensures.left.formed.discoveries.ordered.lo
 pub shape_of-discovery_ends : goal.shape_of-discovery_ends
 shape_of-discovery_ends c = c.accept.ensures.left.formed.discoveries.ordered.long.1.1.0 ∙ sym c.requires.discoveries.ordered.long.1.1.0
 
-pub returns-in-At : goal.returns-in-At
-returns-in-At c =
+pub returns-in-Some : goal.returns-in-Some
+returns-in-Some c =
     let a = c.args in
     let t = in_columns a.route_keys.now a.route_words.now a.route_usage.now a.routes a.discovery_keys.now a.discovery_words.now a.discovery_ends.now a.discoveries in
     let old = tables_of t in
     let left = expired a.now_ms old in
     leaves-as _ _ _ _
     (ap (λ (d : DiscoveryEntry). answered old (accepting a.originator a.sender a.cost a.many_to_one d left)) c.new_discovery-d.ensures
-    ∙ ap (answered old) (sym (rule-new a.originator a.id a.destination a.sender a.cost a.many_to_one c.in-At.expires left))
-    ∙ ap (λ (z : Sum). by_time old z (λ (e : ℕ). request_to a.originator a.id a.destination a.sender a.cost a.many_to_one e left none)) (sym c.in-At.is ∙ c.time_sum-sum.ensures))
+    ∙ ap (answered old) (sym (rule-new a.originator a.id a.destination a.sender a.cost a.many_to_one c.in-Some.expires left))
+    ∙ ap (λ (z : Option ℕ). by_time old z (λ (e : ℕ). request_to a.originator a.id a.destination a.sender a.cost a.many_to_one e left None)) (sym c.in-Some.is ∙ c.time_sum-sum.ensures))
     c.accept.ensures
 
-pub returns-in-Past : goal.returns-in-Past
-returns-in-Past c =
+pub returns-in-None : goal.returns-in-None
+returns-in-None c =
     let a = c.args in
     let t = in_columns a.route_keys.now a.route_words.now a.route_usage.now a.routes a.discovery_keys.now a.discovery_words.now a.discovery_ends.now a.discoveries in
     let old = tables_of t in
     let left = expired a.now_ms old in
-    leaves-refused t c.requires TimePastEnd _ c.refuse.ensures _ (ap (λ (z : Sum). by_time old z (λ (e : ℕ). request_to a.originator a.id a.destination a.sender a.cost a.many_to_one e left none)) (sym c.time_sum-sum.ensures ∙ c.in-Past.is))
+    leaves-refused t c.requires TimePastEnd _ c.refuse.ensures _ (ap (λ (z : Option ℕ). by_time old z (λ (e : ℕ). request_to a.originator a.id a.destination a.sender a.cost a.many_to_one e left None)) (sym c.time_sum-sum.ensures ∙ c.in-None.is))

@@ -8,4 +8,4 @@ pub returns-then-not-is_active : goal.returns-then-not-is_active
 returns-then-not-is_active c = simp (sym c.is_active.ensures ∙ not-true _ c.if-not-is_active.true-raw)
 
 pub returns : goal.returns
-returns c = simp (sym c.is_active.ensures ∙ not-false _ c.if-not-is_active.false-raw, c.saturating_sub_u8.ensures)
+returns c = simp (sym c.is_active.ensures ∙ not-false _ c.if-not-is_active.false-raw, c.saturating_sub.ensures)

@@ -13,24 +13,24 @@ pub remove_at-requires : goal.remove_at-requires
 remove_at-requires c =
     let a = c.args in
     let t = in_columns a.keys.now a.words.now a.usage.now a.count in
-    in-columns t c.requires _ (place-within t c.requires _ _ (sym c.in-Found.is ∙ c.place_of-place.ensures))
+    in-columns t c.requires _ (place-within t c.requires _ _ (sym c.in-Ok.is ∙ c.place_of-place.ensures))
 
 pub overflow_sub-result : goal.overflow_sub-result
 overflow_sub-result c =
     let a = c.args in
     let t = in_columns a.keys.now a.words.now a.usage.now a.count in
-    omega (arith, place-within t c.requires _ _ (sym c.in-Found.is ∙ c.place_of-place.ensures))
+    omega (arith, place-within t c.requires _ _ (sym c.in-Ok.is ∙ c.place_of-place.ensures))
 
-pub returns-in-Found : goal.returns-in-Found
-returns-in-Found c =
+pub returns-in-Ok : goal.returns-in-Ok
+returns-in-Ok c =
     let a = c.args in
     let t = in_columns a.keys.now a.words.now a.usage.now a.count in
     let q = c.remove_at.ensures in
     subst (λ (x : RouteTable). Holds x (ordered.remove route_key a.destination.0 (rows_of t))) (sym (λ z. in_columns (q.0 z) (q.1 z) (q.2 z) (a.count - 1)))
-    (out-holds t c.requires a.destination.0 _ (sym c.in-Found.is ∙ c.place_of-place.ensures))
+    (out-holds t c.requires a.destination.0 _ (sym c.in-Ok.is ∙ c.place_of-place.ensures))
 
-pub returns-in-Missing : goal.returns-in-Missing
-returns-in-Missing c =
+pub returns-in-Err : goal.returns-in-Err
+returns-in-Err c =
     let a = c.args in
     let t = in_columns a.keys.now a.words.now a.usage.now a.count in
-    none_out t c.requires a.destination.0 _ (sym c.in-Missing.is ∙ c.place_of-place.ensures)
+    none_out t c.requires a.destination.0 _ (sym c.in-Err.is ∙ c.place_of-place.ensures)

@@ -36,5 +36,5 @@ returns c =
     let t = in_columns a.keys.now a.words.now a.usage.now a.count in
     tells-one
     (parts-told t (c.if-keys-ne64.false, (c.if-words-ne64.false, (c.if-usage-ne64.false, tt))) c.if-count-gt64.false
-    c.rising16-up.ensures c.zero_from16-no_keys.ensures c.zero_from64-no_words.ensures c.zero_from32-no_usage.ensures c.under64-small.ensures)
+    c.rising-up.ensures c.zero_from-no_keys.ensures c.zero_from-no_words.ensures c.zero_from-no_usage.ensures c.under-small.ensures)
     (well-formed-told t)

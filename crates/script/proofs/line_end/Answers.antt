@@ -1,14 +1,12 @@
 -- The bytes passed hold no line feed.
--- The measure is the bytes left.
 -- Assumes nothing.
-use mathlib.Core.Path.{refl, sym, ◌∙◌}
-use Prim.Native.Nat.{◌-◌}
+use mathlib.Core.Path.{sym, ◌∙◌}
+use mathlib.Core.Logic.{⊎_elim}
+use lib.ListN.{length}
+use Rattle.flat_map.proofs.Compare.{below_or_not}
 use Rattle.script.proofs.Steps.{feed-here, feed-next, feed-end}
 use native.Mathlib.Omega.{arith}
 use Rattle.script.proofs.line_end.Goals as goal
-
-pub loop-i-init : goal.loop-i-init
-loop-i-init c = refl
 
 pub returns-then-bytes-i-eq10 : goal.returns-then-bytes-i-eq10
 returns-then-bytes-i-eq10 c =
@@ -23,4 +21,7 @@ loop-i-preserved c =
 pub returns : goal.returns
 returns c =
     let v = c.loop-i in
-    omega (arith, feed-end c.args.bytes.now v.i (omega arith), v.invariant)
+    let bytes = c.args.bytes.now in
+    let ended = feed-end bytes v.i (omega arith) in
+    ⊎_elim (λ h. omega (arith, ended, v.invariant, v.auto.i-end (omega (arith, h)))) (λ h. omega (arith, ended, v.invariant, feed-end bytes c.args.from h))
+    (below_or_not c.args.from (length bytes))

@@ -1,6 +1,6 @@
 -- By the place: a route found is the look-up's, and where there is none the definition makes one.
 -- Assumes nothing.
-use mathlib.Core.Option.{Option, get_or}
+use Rattle.std.specs.Prelude.{Option, unwrap_or}
 use mathlib.Core.Path.{sym, ap, ◌∙◌}
 use Rattle.standard.specs.declared.RouteEntry.{RouteEntry}
 use Rattle.standard.specs.declared.Status.TheVariants.{Inactive}
@@ -13,18 +13,18 @@ pub entry_at-requires : goal.entry_at-requires
 entry_at-requires c =
     let a = c.args in
     let t = in_columns a.keys.now a.words.now a.usage.now a.count in
-    routes.in-columns t c.requires.0 _ (routes.place-within t c.requires.0 _ _ (sym c.in-Found.is ∙ c.requires.1))
+    routes.in-columns t c.requires.0 _ (routes.place-within t c.requires.0 _ _ (sym c.in-Ok.is ∙ c.requires.1))
 
-pub returns-in-Found : goal.returns-in-Found
-returns-in-Found c =
+pub returns-in-Ok : goal.returns-in-Ok
+returns-in-Ok c =
     let a = c.args in
     let t = in_columns a.keys.now a.words.now a.usage.now a.count in
     c.entry_at.ensures
-    ∙ sym (ap (λ (o : Option RouteEntry). get_or o (new_route a.destination Inactive unknown_hop)) (routes.found-row t c.requires.0 _ _ (sym c.in-Found.is ∙ c.requires.1)))
+    ∙ sym (ap (λ (o : Option RouteEntry). unwrap_or o (new_route a.destination Inactive unknown_hop)) (routes.found-row t c.requires.0 _ _ (sym c.in-Ok.is ∙ c.requires.1)))
 
-pub returns-in-Missing : goal.returns-in-Missing
-returns-in-Missing c =
+pub returns-in-Err : goal.returns-in-Err
+returns-in-Err c =
     let a = c.args in
     let t = in_columns a.keys.now a.words.now a.usage.now a.count in
     c.new_route.ensures
-    ∙ sym (ap (λ (o : Option RouteEntry). get_or o (new_route a.destination Inactive unknown_hop)) (routes.missing-row t c.requires.0 _ _ (sym c.in-Missing.is ∙ c.requires.1)))
+    ∙ sym (ap (λ (o : Option RouteEntry). unwrap_or o (new_route a.destination Inactive unknown_hop)) (routes.missing-row t c.requires.0 _ _ (sym c.in-Err.is ∙ c.requires.1)))

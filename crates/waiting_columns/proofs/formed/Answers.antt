@@ -28,4 +28,4 @@ pub returns : goal.returns
 returns c =
     let a = c.args in
     let t = in_columns a.keys.now a.samples.now a.count in
-    formed-is t (parts-told t c.if-keys-ne64.false c.if-samples-ne64.false c.if-count-gt64.false c.rising16-up.ensures c.zero_from16-no_keys.ensures c.zero_from64-no_samples.ensures c.under64-small.ensures)
+    formed-is t (parts-told t c.if-keys-ne64.false c.if-samples-ne64.false c.if-count-gt64.false c.rising-up.ensures c.zero_from-no_keys.ensures c.zero_from-no_samples.ensures c.under-small.ensures)

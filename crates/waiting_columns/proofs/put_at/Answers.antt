@@ -10,42 +10,42 @@ pub offset_bounds-samples-i : goal.offset_bounds-samples-i
 offset_bounds-samples-i c =
     let a = c.args in
     let t = in_columns a.keys.now a.samples.now a.count in
-    omega (arith, (in-columns t c.requires.0 _ (place-within t c.requires.0 _ _ (sym c.in-Found.is ∙ c.requires.1))).1)
+    omega (arith, (in-columns t c.requires.0 _ (place-within t c.requires.0 _ _ (sym c.in-Ok.is ∙ c.requires.1))).1)
 
 pub bounds-samples-i : goal.bounds-samples-i
 bounds-samples-i c =
     let a = c.args in
     let t = in_columns a.keys.now a.samples.now a.count in
-    omega (arith, (in-columns t c.requires.0 _ (place-within t c.requires.0 _ _ (sym c.in-Found.is ∙ c.requires.1))).1)
+    omega (arith, (in-columns t c.requires.0 _ (place-within t c.requires.0 _ _ (sym c.in-Ok.is ∙ c.requires.1))).1)
 
-pub shift16-requires : goal.shift16-requires
-shift16-requires c =
+pub shift_in-requires : goal.shift_in-requires
+shift_in-requires c =
     let a = c.args in
     let t = in_columns a.keys.now a.samples.now a.count in
-    let p = sym c.in-Missing.is ∙ c.requires.1 in
+    let p = sym c.in-Err.is ∙ c.requires.1 in
     let room = free t c.requires.0 _ _ p c.requires.2 in
     omega (arith, room, missing-within t c.requires.0 _ _ p, c.requires.0.ordered.long.0)
 
-pub shift64-requires : goal.shift64-requires
-shift64-requires c =
+pub shift_in-requires-in-Err : goal.shift_in-requires-in-Err
+shift_in-requires-in-Err c =
     let a = c.args in
     let t = in_columns a.keys.now a.samples.now a.count in
-    let p = sym c.in-Missing.is ∙ c.requires.1 in
+    let p = sym c.in-Err.is ∙ c.requires.1 in
     let room = free t c.requires.0 _ _ p c.requires.2 in
     omega (arith, room, missing-within t c.requires.0 _ _ p, c.requires.0.ordered.long.1.0)
 
-pub returns-in-Found : goal.returns-in-Found
-returns-in-Found c =
+pub returns-in-Ok : goal.returns-in-Ok
+returns-in-Ok c =
     let a = c.args in
     let t = in_columns a.keys.now a.samples.now a.count in
     let q = c.word-w.ensures in
-    rw q.0 (stored-over t c.requires.0 a.e q.2 _ (sym c.in-Found.is ∙ c.requires.1))
+    rw q.0 (stored-over t c.requires.0 a.e q.2 _ (sym c.in-Ok.is ∙ c.requires.1))
 
-pub returns-in-Missing : goal.returns-in-Missing
-returns-in-Missing c =
+pub returns-in-Err : goal.returns-in-Err
+returns-in-Err c =
     let a = c.args in
     let t = in_columns a.keys.now a.samples.now a.count in
-    let p = sym c.in-Missing.is ∙ c.requires.1 in
+    let p = sym c.in-Err.is ∙ c.requires.1 in
     let room = free t c.requires.0 _ _ p c.requires.2 in
     let q = c.word-w.ensures in
-    rw (c.shift16.ensures, c.shift64.ensures, q.0) (put_in t c.requires.0 a.e q.2 _ p room)
+    rw (c.shift_in.ensures, c.shift_in-in-Err.ensures, q.0) (put_in t c.requires.0 a.e q.2 _ p room)

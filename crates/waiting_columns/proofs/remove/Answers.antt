@@ -5,10 +5,10 @@ use Rattle.waiting_columns.proofs.Rows.{none_out}
 use Rattle.waiting_columns.proofs.remove.Goals as goal
 
 pub remove_at-requires : goal.remove_at-requires
-remove_at-requires c = (c.requires, sym c.in-Found.is ∙ c.place_of-place.ensures)
+remove_at-requires c = (c.requires, sym c.in-Ok.is ∙ c.place_of-place.ensures)
 
-pub returns-in-Missing : goal.returns-in-Missing
-returns-in-Missing c =
+pub returns-in-Err : goal.returns-in-Err
+returns-in-Err c =
     let a = c.args in
     let t = in_columns a.keys.now a.samples.now a.count in
-    none_out t c.requires _ _ (sym c.in-Missing.is ∙ c.place_of-place.ensures)
+    none_out t c.requires _ _ (sym c.in-Err.is ∙ c.place_of-place.ensures)

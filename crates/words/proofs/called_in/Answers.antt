@@ -7,15 +7,15 @@ use Rattle.words.proofs.called_in.Goals as goal
 pub returns-then-fits : goal.returns-then-fits
 unfolding called_in
 returns-then-fits c =
-    let e = sym c.in-At.is ∙ c.seek-found.ensures in
+    let e = sym c.in-Some.is ∙ c.seek-found.ensures in
     rw (← e, sym c.fits.ensures ∙ c.if-fits.true)
 
 pub returns-else-fits : goal.returns-else-fits
 unfolding called_in
 returns-else-fits c =
-    let e = sym c.in-At.is ∙ c.seek-found.ensures in
+    let e = sym c.in-Some.is ∙ c.seek-found.ensures in
     rw (← e, sym c.fits.ensures ∙ c.if-fits.false)
 
-pub returns-in-Nothing : goal.returns-in-Nothing
+pub returns-in-None : goal.returns-in-None
 unfolding called_in
-returns-in-Nothing c = rw (← sym c.in-Nothing.is ∙ c.seek-found.ensures)
+returns-in-None c = rw (← sym c.in-None.is ∙ c.seek-found.ensures)

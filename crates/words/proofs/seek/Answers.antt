@@ -1,16 +1,11 @@
 -- The search from here on gives what the whole gives; no more lines than bytes are passed.
--- The measure is what is left of the table.
 -- Assumes nothing.
-use mathlib.Core.Path.{◌≡◌, refl, sym, ◌∙◌}
-use Prim.Native.Nat.{◌-◌}
+use mathlib.Core.Path.{◌≡◌, sym, ◌∙◌}
 use lib.Dec.{eqb}
 use lib.ListN.{get_or}
 use Rattle.words.proofs.Search.{seek-here, seek-on, seek-end, counted-most}
 use native.Mathlib.Omega.{arith}
 use Rattle.words.proofs.seek.Goals as goal
-
-pub loop-at-init : goal.loop-at-init
-loop-at-init c = (omega arith, refl)
 
 pub returns-then-place-gt0 : goal.returns-then-place-gt0
 returns-then-place-gt0 c =

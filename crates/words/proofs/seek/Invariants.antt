@@ -1,15 +1,11 @@
 -- The search from here on gives what the whole gives; no more lines than bytes are passed.
--- The measure is what is left of the table.
 -- Assumes nothing.
 use mathlib.Core.Bool.{true}
 use mathlib.Core.Path.{◌≡◌}
-use Prim.Native.Nat.{◌≤◌, ◌-◌}
-use lib.ListN.{length, drop}
+use Prim.Native.Nat.{◌≤◌}
+use lib.ListN.{drop}
 use Rattle.words.specs.Words.{seek}
 use Rattle.words.proofs.seek.Given as goal
 
 abbrev pub invariant-loop-at : goal.invariant-loop-at
 invariant-loop-at l = (l.n ≤ l.at) × (seek l.word l.n l.start l.at (drop l.at l.table) ≡ seek l.word 0 true 0 l.table)
-
-abbrev pub decreases-loop-at : goal.decreases-loop-at
-decreases-loop-at l = length l.table - l.at

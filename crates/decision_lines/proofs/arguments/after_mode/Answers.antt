@@ -5,8 +5,8 @@ use Rattle.decision_lines.specs.Arguments.{past_mode}
 use Rattle.decision_lines.proofs.arguments.after_mode.Goals as goal
 
 pub overflow_add-result : goal.overflow_add-result
-overflow_add-result c = omega (arith, c.requires, c.mode_length-length.ensures, length-near c.at-2.result c.at_most-count.result (omega (arith, c.at_most-count.ensures)))
+overflow_add-result c = omega (arith, c.requires, c.mode_length-length.ensures, length-near c.at-2.result c.min-count.result (omega (arith, c.min-count.ensures)))
 
 pub returns : goal.returns
 unfolding past_mode
-returns c = rw (c.mode_length-length.ensures, c.at-2.ensures, c.at_most-count.ensures, c.at.ensures)
+returns c = rw (c.mode_length-length.ensures, c.at-2.ensures, c.min-count.ensures, c.at.ensures)

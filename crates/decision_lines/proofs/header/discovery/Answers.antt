@@ -2,4 +2,4 @@
 use Rattle.decision_lines.proofs.header.discovery.Goals as goal
 
 pub returns : goal.returns
-returns c = rw c.at_most-i.ensures
+returns c = rw c.min-i.ensures

@@ -2,4 +2,4 @@
 use Rattle.neighbor_groups.proofs.child.removal_reply.Goals as goal
 
 pub returns : goal.returns
-returns c = rw c.children_answer-said.ensures
+returns c = rw c.removed_answer-said.ensures

@@ -12,10 +12,10 @@ use Rattle.neighbor_loads.proofs.prints.from_waiting.Goals as goal
 pub returns-then-n-i : goal.returns-then-n-i
 returns-then-n-i c =
     let t = waiting_in c.args.s in
-    c.no_call.ensures ∙ ap spoken (sym (line-none (waiting_rows t) c.args.i (omega (arith, waiting-count t, c.at_most-n.ensures, c.if-n-i.true))))
+    c.no_call.ensures ∙ ap spoken (sym (line-none (waiting_rows t) c.args.i (omega (arith, waiting-count t, c.min-n.ensures, c.if-n-i.true))))
 
 pub waiting_line-requires : goal.waiting_line-requires
-waiting_line-requires c = omega (arith, c.at_most-n.ensures)
+waiting_line-requires c = omega (arith, c.min-n.ensures)
 
 pub returns : goal.returns
 returns c = c.waiting_line.ensures

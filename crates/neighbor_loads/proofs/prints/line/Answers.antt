@@ -12,20 +12,20 @@ use Rattle.neighbor_loads.proofs.Counts.{neighbor-count}
 use Rattle.neighbor_loads.proofs.prints.line.Goals as goal
 
 pub neighbor_line-requires : goal.neighbor_line-requires
-neighbor_line-requires c = omega (arith, c.at_most-n.ensures)
+neighbor_line-requires c = omega (arith, c.min-n.ensures)
 
 pub returns-then-i-n : goal.returns-then-i-n
 unfolding neighbor_lines
 returns-then-i-n c =
     let t = table_in c.args.s in
-    c.neighbor_line.ensures ∙ ap spoken (sym (line_first (neighbor_rows t) (waiting_rows (waiting_in c.args.s)) c.args.i (omega (arith, neighbor-count t, c.at_most-n.ensures, c.if-i-n.true))))
+    c.neighbor_line.ensures ∙ ap spoken (sym (line_first (neighbor_rows t) (waiting_rows (waiting_in c.args.s)) c.args.i (omega (arith, neighbor-count t, c.min-n.ensures, c.if-i-n.true))))
 
 pub returns : goal.returns
 unfolding neighbor_lines
 returns c =
     let t = table_in c.args.s in
     let many = neighbor-count t in
-    let n = c.at_most-n.ensures in
+    let n = c.min-n.ensures in
     let ys = waiting_rows (waiting_in c.args.s) in
     c.from_waiting.ensures
     ∙ ap (λ k. spoken (line_said ys (c.args.i - k))) (n ∙ sym many)

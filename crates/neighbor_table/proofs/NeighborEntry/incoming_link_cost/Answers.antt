@@ -4,8 +4,8 @@ use mathlib.Core.Path.{sym, ap, ◌∙◌}
 use Rattle.neighbor_table.specs.Entry.{cost_of}
 use Rattle.neighbor_table.proofs.NeighborEntry.incoming_link_cost.Goals as goal
 
-pub returns-in-Unknown : goal.returns-in-Unknown
-returns-in-Unknown c = ap cost_of (sym c.in-Unknown.is ∙ c.lqa-quality.ensures)
+pub returns-in-None : goal.returns-in-None
+returns-in-None c = ap cost_of (sym c.in-None.is ∙ c.lqa-quality.ensures)
 
-pub returns-in-Known : goal.returns-in-Known
-returns-in-Known c = c.lqi_to_link_cost.ensures ∙ ap cost_of (sym c.in-Known.is ∙ c.lqa-quality.ensures)
+pub returns-in-Some : goal.returns-in-Some
+returns-in-Some c = c.lqi_to_link_cost.ensures ∙ ap cost_of (sym c.in-Some.is ∙ c.lqa-quality.ensures)

@@ -10,11 +10,11 @@ use Rattle.neighbors.proofs.Neighbors.end_device_children.Goals as goal
 
 pub returns-then-not-well_formed : goal.returns-then-not-well_formed
 unfolding end_device_children
-returns-then-not-well_formed c = rw ((sym c.well_formed-2.ensures ∙ not-true _ c.if-not-well_formed.true-raw), c.refused_eui64s.ensures)
+returns-then-not-well_formed c = rw (sym c.well_formed-2.ensures ∙ not-true _ c.if-not-well_formed.true-raw)
 
-pub end_device_children-list-requires : goal.end_device_children-list-requires
-end_device_children-list-requires c = seen-in-use _ ((state-told _).fact (sym c.well_formed-2.ensures ∙ not-false _ c.if-not-well_formed.false-raw)).table.formed
+pub end_device_children-requires : goal.end_device_children-requires
+end_device_children-requires c = seen-in-use _ ((state-told _).fact (sym c.well_formed-2.ensures ∙ not-false _ c.if-not-well_formed.false-raw)).table.formed
 
 pub returns : goal.returns
 unfolding end_device_children
-returns c = rw ((sym c.well_formed-2.ensures ∙ not-false _ c.if-not-well_formed.false-raw), c.end_device_children-list.ensures (table_in c.args.self) ((state-told _).fact (sym c.well_formed-2.ensures ∙ not-false _ c.if-not-well_formed.false-raw)).table.formed)
+returns c = rw ((sym c.well_formed-2.ensures ∙ not-false _ c.if-not-well_formed.false-raw), c.end_device_children.ensures (table_in c.args.self) ((state-told _).fact (sym c.well_formed-2.ensures ∙ not-false _ c.if-not-well_formed.false-raw)).table.formed)

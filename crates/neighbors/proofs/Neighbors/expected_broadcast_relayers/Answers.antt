@@ -10,11 +10,11 @@ use Rattle.neighbors.proofs.Neighbors.expected_broadcast_relayers.Goals as goal
 
 pub returns-then-not-well_formed : goal.returns-then-not-well_formed
 unfolding expected_broadcast_relayers
-returns-then-not-well_formed c = rw ((sym c.well_formed-2.ensures ∙ not-true _ c.if-not-well_formed.true-raw), c.refused_nwks.ensures)
+returns-then-not-well_formed c = rw (sym c.well_formed-2.ensures ∙ not-true _ c.if-not-well_formed.true-raw)
 
-pub expected_broadcast_relayers-list-requires : goal.expected_broadcast_relayers-list-requires
-expected_broadcast_relayers-list-requires c = words-in-use _ ((state-told _).fact (sym c.well_formed-2.ensures ∙ not-false _ c.if-not-well_formed.false-raw)).table.formed
+pub expected_broadcast_relayers-requires : goal.expected_broadcast_relayers-requires
+expected_broadcast_relayers-requires c = words-in-use _ ((state-told _).fact (sym c.well_formed-2.ensures ∙ not-false _ c.if-not-well_formed.false-raw)).table.formed
 
 pub returns : goal.returns
 unfolding expected_broadcast_relayers
-returns c = rw ((sym c.well_formed-2.ensures ∙ not-false _ c.if-not-well_formed.false-raw), c.expected_broadcast_relayers-list.ensures (table_in c.args.self) ((state-told _).fact (sym c.well_formed-2.ensures ∙ not-false _ c.if-not-well_formed.false-raw)).table.formed)
+returns c = rw ((sym c.well_formed-2.ensures ∙ not-false _ c.if-not-well_formed.false-raw), c.expected_broadcast_relayers.ensures (table_in c.args.self) ((state-told _).fact (sym c.well_formed-2.ensures ∙ not-false _ c.if-not-well_formed.false-raw)).table.formed)

@@ -10,11 +10,11 @@ use Rattle.neighbors.proofs.Neighbors.link_status_entries.Goals as goal
 
 pub returns-then-not-well_formed : goal.returns-then-not-well_formed
 unfolding link_status_entries
-returns-then-not-well_formed c = rw ((sym c.well_formed-2.ensures ∙ not-true _ c.if-not-well_formed.true-raw), c.refused_statuses.ensures)
+returns-then-not-well_formed c = rw (sym c.well_formed-2.ensures ∙ not-true _ c.if-not-well_formed.true-raw)
 
-pub link_status_entries-list-requires : goal.link_status_entries-list-requires
-link_status_entries-list-requires c = words-in-use _ ((state-told _).fact (sym c.well_formed-2.ensures ∙ not-false _ c.if-not-well_formed.false-raw)).table.formed
+pub link_status_entries-requires : goal.link_status_entries-requires
+link_status_entries-requires c = words-in-use _ ((state-told _).fact (sym c.well_formed-2.ensures ∙ not-false _ c.if-not-well_formed.false-raw)).table.formed
 
 pub returns : goal.returns
 unfolding link_status_entries
-returns c = rw ((sym c.well_formed-2.ensures ∙ not-false _ c.if-not-well_formed.false-raw), c.link_status_entries-list.ensures (table_in c.args.self) ((state-told _).fact (sym c.well_formed-2.ensures ∙ not-false _ c.if-not-well_formed.false-raw)).table.formed)
+returns c = rw ((sym c.well_formed-2.ensures ∙ not-false _ c.if-not-well_formed.false-raw), c.link_status_entries.ensures (table_in c.args.self) ((state-told _).fact (sym c.well_formed-2.ensures ∙ not-false _ c.if-not-well_formed.false-raw)).table.formed)

@@ -17,4 +17,4 @@ next_child_timeout-requires c = deadlines-in-use _ ((state-told _).fact (sym c.w
 
 pub returns : goal.returns
 unfolding next_child_timeout
-returns c = rw ((sym c.well_formed-2.ensures ∙ not-false _ c.if-not-well_formed.false-raw), c.moment_in.ensures, c.next_child_timeout.ensures (table_in c.args.self) ((state-told _).fact (sym c.well_formed-2.ensures ∙ not-false _ c.if-not-well_formed.false-raw)).table.formed)
+returns c = rw ((sym c.well_formed-2.ensures ∙ not-false _ c.if-not-well_formed.false-raw), c.next_child_timeout.ensures (table_in c.args.self) ((state-told _).fact (sym c.well_formed-2.ensures ∙ not-false _ c.if-not-well_formed.false-raw)).table.formed)

@@ -1,8 +1,8 @@
 -- A state that is not well formed is refused as it is; in any other the columns that the call leaves are put back, and they are those of its rows.
 -- Assumes nothing.
+use Rattle.std.specs.Prelude.{Ok}
 use mathlib.Core.Path.{sym, ◌∙◌}
 use borrow.Author.Tests.{not-true, not-false}
-use Rattle.neighbor_queries.specs.declared.Answer.TheVariants.{Done}
 use Rattle.neighbors.specs.Changes.{record_outbound_activity}
 use Rattle.neighbors.specs.State.{table_in}
 use Rattle.neighbors.proofs.Ready.{counts-ordered}
@@ -18,4 +18,4 @@ record_outbound_activity-requires c = counts-ordered _ ((state-told _).fact (sym
 
 pub returns : goal.returns
 unfolding record_outbound_activity
-returns c = rw (sym c.well_formed-2.ensures ∙ not-false _ c.if-not-well_formed.false-raw) (λ z. record { answer = Done; state = held c.args.self _ _ (c.record_outbound_activity.ensures (table_in c.args.self) ((state-told _).fact (sym c.well_formed-2.ensures ∙ not-false _ c.if-not-well_formed.false-raw)).table) z })
+returns c = rw (sym c.well_formed-2.ensures ∙ not-false _ c.if-not-well_formed.false-raw) (λ z. record { answer = Ok tt; state = held c.args.self _ _ (c.record_outbound_activity.ensures (table_in c.args.self) ((state-told _).fact (sym c.well_formed-2.ensures ∙ not-false _ c.if-not-well_formed.false-raw)).table) z })

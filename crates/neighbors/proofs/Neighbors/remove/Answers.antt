@@ -1,8 +1,8 @@
 -- A state that is not well formed is refused as it is; in any other the columns that the call leaves are put back, and they are those of its rows.
 -- Assumes nothing.
+use Rattle.std.specs.Prelude.{Ok}
 use mathlib.Core.Path.{sym, ◌∙◌}
 use borrow.Author.Tests.{not-true, not-false}
-use Rattle.neighbor_queries.specs.declared.Answer.TheVariants.{Done}
 use Rattle.neighbors.specs.Changes.{remove}
 use Rattle.neighbors.proofs.State.{state-told, held}
 use Rattle.neighbors.proofs.Neighbors.remove.Goals as goal
@@ -16,4 +16,4 @@ remove-count-requires c = ((state-told _).fact (sym c.well_formed-2.ensures ∙ 
 
 pub returns : goal.returns
 unfolding remove
-returns c = rw (sym c.well_formed-2.ensures ∙ not-false _ c.if-not-well_formed.false-raw) (λ z. record { answer = Done; state = held c.args.self _ _ c.remove-count.ensures z })
+returns c = rw (sym c.well_formed-2.ensures ∙ not-false _ c.if-not-well_formed.false-raw) (λ z. record { answer = Ok tt; state = held c.args.self _ _ c.remove-count.ensures z })

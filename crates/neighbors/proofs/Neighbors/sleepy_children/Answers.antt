@@ -10,11 +10,11 @@ use Rattle.neighbors.proofs.Neighbors.sleepy_children.Goals as goal
 
 pub returns-then-not-well_formed : goal.returns-then-not-well_formed
 unfolding sleepy_children
-returns-then-not-well_formed c = rw ((sym c.well_formed-2.ensures ∙ not-true _ c.if-not-well_formed.true-raw), c.refused_children.ensures)
+returns-then-not-well_formed c = rw (sym c.well_formed-2.ensures ∙ not-true _ c.if-not-well_formed.true-raw)
 
-pub sleepy_children-list-requires : goal.sleepy_children-list-requires
-sleepy_children-list-requires c = seen-in-use _ ((state-told _).fact (sym c.well_formed-2.ensures ∙ not-false _ c.if-not-well_formed.false-raw)).table.formed
+pub sleepy_children-requires : goal.sleepy_children-requires
+sleepy_children-requires c = seen-in-use _ ((state-told _).fact (sym c.well_formed-2.ensures ∙ not-false _ c.if-not-well_formed.false-raw)).table.formed
 
 pub returns : goal.returns
 unfolding sleepy_children
-returns c = rw ((sym c.well_formed-2.ensures ∙ not-false _ c.if-not-well_formed.false-raw), c.sleepy_children-list.ensures (table_in c.args.self) ((state-told _).fact (sym c.well_formed-2.ensures ∙ not-false _ c.if-not-well_formed.false-raw)).table.formed)
+returns c = rw ((sym c.well_formed-2.ensures ∙ not-false _ c.if-not-well_formed.false-raw), c.sleepy_children.ensures (table_in c.args.self) ((state-told _).fact (sym c.well_formed-2.ensures ∙ not-false _ c.if-not-well_formed.false-raw)).table.formed)

@@ -4,9 +4,10 @@ use native.Mathlib.Omega.{arith}
 use mathlib.Core.Path.{◌≡◌, ap, ◌∙◌, sym}
 use borrow.Author.Rules.{rules}
 use borrow.Author.Tests.{ltb-true, lt-ltb}
-use lib.ListN.{length, drop_of_length-le}
+use lib.ListN.{length, drop, drop_of_length-le}
 use Rattle.standard.proofs.Tells.{not_so}
 use Rattle.ring_buffer.specs.Ring.{all_zero}
+use Rattle.ring_buffer.proofs.Zeros.{all_are}
 use Rattle.ring_buffer.proofs.RingBuffer.well_formed.Goals as goal
 
 pub returns-then-next-len : goal.returns-then-next-len
@@ -17,9 +18,9 @@ returns-then-next-len c =
         count = search rules;
         filling = λ _. c.if-next-len.true;
         full = λ h. search rules;
-        blank = sym c.zero_from.ensures ∙ e;
+        blank = sym (c.zero_from.ensures ∙ all_are (drop c.args.self.len c.args.self.values)) ∙ e;
       };
-      flag = λ w. c.zero_from.ensures ∙ w.blank;
+      flag = λ w. c.zero_from.ensures ∙ all_are (drop c.args.self.len c.args.self.values) ∙ w.blank;
     }
 
 pub returns-else-next-len : goal.returns-else-next-len

@@ -12,7 +12,7 @@ use Rattle.route_loads.proofs.Counts.{discovery-count}
 use Rattle.route_loads.proofs.prints.from_discoveries.Goals as goal
 
 pub discovery_line-requires : goal.discovery_line-requires
-discovery_line-requires c = omega (arith, c.at_most-n.ensures)
+discovery_line-requires c = omega (arith, c.min-n.ensures)
 
 pub returns-then-i-n : goal.returns-then-i-n
 unfolding after_routes
@@ -20,7 +20,7 @@ returns-then-i-n c =
     let t = discovery_table c.args.s in
     let ys = record_lines (record_table c.args.s) c.args.store.now in
     let many = discovery-count t in
-    c.discovery_line.ensures ∙ ap spoken (sym (line_first (discovery_lines t) ys c.args.i (omega (arith, many, c.at_most-n.ensures, c.if-i-n.true))))
+    c.discovery_line.ensures ∙ ap spoken (sym (line_first (discovery_lines t) ys c.args.i (omega (arith, many, c.min-n.ensures, c.if-i-n.true))))
 
 pub returns : goal.returns
 unfolding after_routes
@@ -28,7 +28,7 @@ returns c =
     let t = discovery_table c.args.s in
     let ys = record_lines (record_table c.args.s) c.args.store.now in
     let many = discovery-count t in
-    let n = c.at_most-n.ensures in
+    let n = c.min-n.ensures in
     c.from_records.ensures
     ∙ ap (λ k. spoken (line_said ys (c.args.i - k))) (n ∙ sym many)
     ∙ ap spoken (sym (line-rest (discovery_lines t) ys c.args.i (omega (arith, many, n, c.if-i-n.false))))

@@ -13,10 +13,10 @@ pub returns-then-n-i : goal.returns-then-n-i
 returns-then-n-i c =
     let t = record_table c.args.s in
     let store = c.args.store.now in
-    c.no_call.ensures ∙ ap spoken (sym (line-none (record_lines t store) c.args.i (omega (arith, record-count t store, c.at_most-n.ensures, c.if-n-i.true))))
+    c.no_call.ensures ∙ ap spoken (sym (line-none (record_lines t store) c.args.i (omega (arith, record-count t store, c.min-n.ensures, c.if-n-i.true))))
 
 pub record_line-requires : goal.record_line-requires
-record_line-requires c = omega (arith, c.at_most-n.ensures)
+record_line-requires c = omega (arith, c.min-n.ensures)
 
 pub returns : goal.returns
 returns c = c.record_line.ensures

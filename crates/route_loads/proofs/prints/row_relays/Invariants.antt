@@ -1,6 +1,4 @@
 -- At each turn the list holds the numbers passed as addresses, blank after them; it ends at the count or at the store's end.
--- The measure is the numbers left.
-use Prim.Native.Nat.{◌-◌, ◌≤◌}
 use mathlib.Core.List.{map}
 use mathlib.Core.Path.{◌≡◌}
 use lib.ListN.{take, drop}
@@ -9,7 +7,4 @@ use Rattle.flat_map.specs.Rows.{pad}
 use Rattle.route_loads.proofs.prints.row_relays.Given as goal
 
 abbrev pub invariant-loop-j : goal.invariant-loop-j
-invariant-loop-j l = (l.j ≤ l.n) × (l.l.count ≡ l.n) × (l.l.addresses ≡ pad 32 (nwk 0) (map nwk (take l.j (drop l.from l.store))))
-
-abbrev pub decreases-loop-j : goal.decreases-loop-j
-decreases-loop-j l = l.n - l.j
+invariant-loop-j l = (l.l.count ≡ l.n) × (l.l.addresses ≡ pad 32 (nwk 0) (map nwk (take l.j (drop l.from l.store))))

@@ -4,11 +4,5 @@ use mathlib.Core.Path.{sym, ap, ◌∙◌}
 use Rattle.routing.specs.Records.{hop_to, answer_by}
 use Rattle.routing.proofs.Routing.answer_by.Goals as goal
 
-pub returns-in-Direct : goal.returns-in-Direct
-returns-in-Direct c = ap (answer_by c.args.self c.args.destination) (sym c.in-Direct.is)
-
-pub returns-in-SourceRoute : goal.returns-in-SourceRoute
-returns-in-SourceRoute c = ap (answer_by c.args.self c.args.destination) (sym c.in-SourceRoute.is)
-
 pub returns-in-None : goal.returns-in-None
 returns-in-None c = c.hop_to.ensures ∙ ap hop_to c.active_hop-hop.ensures ∙ ap (answer_by c.args.self c.args.destination) (sym c.in-None.is)

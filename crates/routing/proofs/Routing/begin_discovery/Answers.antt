@@ -48,4 +48,4 @@ returns-in_default c = rw (sym (columns-told c.args.self c.columns_formed.ensure
 
 pub returns : goal.returns
 unfolding begin_discovery
-returns c = rw (sym (columns-told c.args.self c.columns_formed.ensures) ∙ not-false _ c.if-not-columns_formed.false-raw) (begun-as c.args.self (λ (n : ℕ). begun (rows_in c.args.self) c.args.own n c.args.destination c.args.now c.args.route_discovery_time) _ _ c.next_id-id.ensures _ _ c.in-Begun.is c.begin-x.ensures.said _ c.begin-x.ensures.left)
+returns c = rw (sym (columns-told c.args.self c.columns_formed.ensures) ∙ not-false _ c.if-not-columns_formed.false-raw) (begun-as c.args.self (λ (n : ℕ). begun (rows_in c.args.self) c.args.own n c.args.destination c.args.now c.args.route_discovery_time) _ _ c.next_id-id.ensures _ _ c.in-Ok.is c.begin-x.ensures.said _ c.begin-x.ensures.left)

@@ -48,4 +48,4 @@ returns-in_default c = rw (sym (columns-told c.args.self c.columns_formed.ensure
 
 pub returns : goal.returns
 unfolding begin_many_to_one_advertisement
-returns c = rw (sym (columns-told c.args.self c.columns_formed.ensures) ∙ not-false _ c.if-not-columns_formed.false-raw) (begun-as c.args.self (λ (n : ℕ). advertised (rows_in c.args.self) c.args.own n c.args.now c.args.route_discovery_time) _ _ c.next_id-id.ensures _ _ c.in-Begun.is c.advertise-x.ensures.said _ c.advertise-x.ensures.left)
+returns c = rw (sym (columns-told c.args.self c.columns_formed.ensures) ∙ not-false _ c.if-not-columns_formed.false-raw) (begun-as c.args.self (λ (n : ℕ). advertised (rows_in c.args.self) c.args.own n c.args.now c.args.route_discovery_time) _ _ c.next_id-id.ensures _ _ c.in-Ok.is c.advertise-x.ensures.said _ c.advertise-x.ensures.left)

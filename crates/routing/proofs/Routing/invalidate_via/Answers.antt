@@ -1,8 +1,8 @@
 -- A state that is not well formed is refused as it is; in any other the columns that the call leaves are put back, and they are those of its rows.
 -- Assumes nothing.
+use Rattle.std.specs.Prelude.{Ok}
 use mathlib.Core.Path.{sym, ◌∙◌}
 use borrow.Author.Tests.{not-true, not-false}
-use Rattle.route_calls.specs.declared.RouteAnswer.TheVariants.{Done}
 use Rattle.routing.specs.Routes.{invalidate_via}
 use Rattle.routing.proofs.State.{state-told, held-routes}
 use Rattle.routing.proofs.Routing.invalidate_via.Goals as goal
@@ -18,4 +18,4 @@ pub returns : goal.returns
 unfolding invalidate_via
 returns c =
     rw (sym c.well_formed-2.ensures ∙ not-false _ c.if-not-well_formed.false-raw)
-    (λ z. record { answer = Done; state = held-routes c.args.self _ _ c.invalidate_via.ensures z })
+    (λ z. record { answer = Ok tt; state = held-routes c.args.self _ _ c.invalidate_via.ensures z })

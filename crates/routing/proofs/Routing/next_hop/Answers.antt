@@ -1,8 +1,8 @@
 -- A state that is not well formed is refused; of any other the hop of its route table is the answer.
 -- Assumes nothing.
-use mathlib.Core.Path.{sym, ap, ◌∙◌}
+use mathlib.Core.Path.{sym, ◌∙◌}
 use borrow.Author.Tests.{not-true, not-false}
-use Rattle.routing.specs.Queries.{hop_outcome, next_hop_of}
+use Rattle.routing.specs.Queries.{next_hop_of}
 use Rattle.routing.proofs.State.{state-told}
 use Rattle.routing.proofs.Routing.next_hop.Goals as goal
 
@@ -15,4 +15,4 @@ active_hop-requires c = (state-told _).fact (sym c.well_formed-2.ensures ∙ not
 
 pub returns : goal.returns
 unfolding next_hop_of
-returns c = rw (sym c.well_formed-2.ensures ∙ not-false _ c.if-not-well_formed.false-raw) (c.hop_outcome.ensures ∙ ap hop_outcome c.active_hop.ensures)
+returns c = rw (sym c.well_formed-2.ensures ∙ not-false _ c.if-not-well_formed.false-raw) c.active_hop.ensures

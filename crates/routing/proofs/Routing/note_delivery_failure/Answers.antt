@@ -11,4 +11,4 @@ returns-then-not-well_formed c = rw (sym c.well_formed-2.ensures ∙ not-true _ 
 
 pub returns : goal.returns
 unfolding note_delivery_failure
-returns c = rw (sym c.well_formed-2.ensures ∙ not-false _ c.if-not-well_formed.false-raw, c.saturating_add_u8-count.ensures)
+returns c = rw (sym c.well_formed-2.ensures ∙ not-false _ c.if-not-well_formed.false-raw, c.saturating_add-count.ensures)

@@ -32,4 +32,4 @@ unfolding record_at
 returns c =
     let good = sym c.well_formed-2.ensures ∙ not-false _ c.if-not-well_formed.false-raw in
     let fit = sym c.agrees.ensures ∙ not-false _ c.if-not-agrees.false-raw in
-    rw (good, fit, c.record_here-answer.ensures, c.record_at-row.ensures)
+    rw (good, fit, c.record_at-row.ensures)

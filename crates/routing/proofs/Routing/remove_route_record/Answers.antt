@@ -1,10 +1,10 @@
 -- A state that is not well formed and a store that disagrees are refused; in any other the columns that the call leaves are put back, and they and the store are those of its records.
 -- Assumes nothing.
+use Rattle.std.specs.Prelude.{Ok}
 use mathlib.Core.Path.{sym, ◌∙◌}
 use borrow.Author.Tests.{not-true, not-false}
 use Rattle.relay_store.proofs.Agree.{agrees-told}
 use Rattle.route_record.specs.Answer.{removed_step}
-use Rattle.routing.specs.declared.ToldAnswer.TheVariants.{Told}
 use Rattle.routing.specs.Records.{remove_route_record, store_after_removal}
 use Rattle.routing.proofs.State.{state-told, held-records}
 use Rattle.routing.proofs.Routing.remove_route_record.Goals as goal
@@ -37,4 +37,4 @@ returns c =
     let good = sym c.well_formed-2.ensures ∙ not-false _ c.if-not-well_formed.false-raw in
     let fit = sym c.agrees.ensures ∙ not-false _ c.if-not-agrees.false-raw in
     let held = held-records c.args.self _ _ _ c.remove_record-x.ensures.holds in
-    record { value = rw (good, fit) (λ z. record { answer = Told (c.remove_record-x.ensures.answers z); state = held.0 z }); store_after = rw (good, fit) held.1 }
+    record { value = rw (good, fit) (λ z. record { answer = Ok (c.remove_record-x.ensures.answers z); state = held.0 z }); store_after = rw (good, fit) held.1 }

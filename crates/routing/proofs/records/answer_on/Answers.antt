@@ -4,11 +4,5 @@ use Rattle.route_table.specs.Table.{in_columns, rows_of}
 use Rattle.routing.specs.Records.{hop_to, answer_in}
 use Rattle.routing.proofs.records.answer_on.Goals as goal
 
-pub returns-in-Direct : goal.returns-in-Direct
-returns-in-Direct c = let a = c.args in ap (answer_in (rows_of (in_columns a.route_keys.now a.route_words.now a.route_usage.now a.routes)) a.destination) (sym c.in-Direct.is)
-
-pub returns-in-SourceRoute : goal.returns-in-SourceRoute
-returns-in-SourceRoute c = let a = c.args in ap (answer_in (rows_of (in_columns a.route_keys.now a.route_words.now a.route_usage.now a.routes)) a.destination) (sym c.in-SourceRoute.is)
-
 pub returns-in-None : goal.returns-in-None
 returns-in-None c = let a = c.args in c.hop_to.ensures ∙ ap hop_to c.next_hop-hop.ensures ∙ ap (answer_in (rows_of (in_columns a.route_keys.now a.route_words.now a.route_usage.now a.routes)) a.destination) (sym c.in-None.is)

@@ -4,8 +4,5 @@ use mathlib.Core.Path.{sym, ap}
 use Rattle.routing.specs.Records.{hop_to}
 use Rattle.routing.proofs.records.hop_to.Goals as goal
 
-pub returns-in-Hop : goal.returns-in-Hop
-returns-in-Hop c = ap hop_to (sym c.in-Hop.is)
-
-pub returns-in-Unknown : goal.returns-in-Unknown
-returns-in-Unknown c = ap hop_to (sym c.in-Unknown.is)
+pub returns-in-Err : goal.returns-in-Err
+returns-in-Err c = ap hop_to (sym c.in-Err.is)

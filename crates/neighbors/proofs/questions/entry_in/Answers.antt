@@ -1,9 +1,0 @@
--- By whether one was found.
--- Assumes nothing.
-use Rattle.neighbors.proofs.questions.entry_in.Goals as goal
-
-pub returns-then-found : goal.returns-then-found
-returns-then-found c = rw c.if-found.true
-
-pub returns-else-found : goal.returns-else-found
-returns-else-found c = rw c.if-found.false
