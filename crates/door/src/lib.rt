@@ -47,6 +47,7 @@ pub fn columns_formed(
 }
 
 // What is reported of routes: whether one changed, and then its destination, next hop and cost.
+// A flag or a number beside the values, and no Option or enum, since C reads these places.
 #[derive(Drop)]
 pub struct UpdatePlaces {
     pub changed: u8,

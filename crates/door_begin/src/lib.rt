@@ -5,6 +5,8 @@ ghost use Rattle.standard.specs.Route.{nwk};
 ghost use Rattle.door.specs.Lent.{lent_with, the_id};
 ghost use Rattle.door_begin.specs.Begin.{SaysBegun, BeginMade, AdvertiseMade};
 
+use discovery_table::Discoveries;
+use route_table::Routes;
 use types::{Nwk, Refusal};
 
 // The number of the answer, and the id as the last one if it was used.
@@ -66,24 +68,29 @@ pub extern "C" fn warpteasel_raw_begin_discovery(
         return 10;
     }
     let id = types::next_id(*request_sequence_number);
-    let x = route_begin::begin(
-        route_keys,
-        route_words,
-        route_usage,
-        n,
-        discovery_keys,
-        discovery_words,
-        discovery_ends,
-        m,
+    let mut held = Routes {
+        keys: route_keys,
+        words: route_words,
+        usage: route_usage,
+        count: n,
+    };
+    let mut open = Discoveries {
+        keys: discovery_keys,
+        words: discovery_words,
+        ends: discovery_ends,
+        count: m,
+    };
+    let answer = route_begin::begin(
+        &mut held,
+        &mut open,
         Nwk(own),
         id,
         Nwk(destination),
         now_ms,
         route_discovery_time,
     );
-    *routes = x.routes;
-    *discoveries = x.discoveries;
-    let answer = x.answer;
+    *routes = held.count;
+    *discoveries = open.count;
     say_begun(answer, id, request_sequence_number, request_id)
 }
 
@@ -131,22 +138,27 @@ pub extern "C" fn warpteasel_raw_begin_many_to_one_advertisement(
         return 10;
     }
     let id = types::next_id(*request_sequence_number);
-    let x = route_begin::advertise(
-        route_keys,
-        route_words,
-        route_usage,
-        n,
-        discovery_keys,
-        discovery_words,
-        discovery_ends,
-        m,
+    let mut held = Routes {
+        keys: route_keys,
+        words: route_words,
+        usage: route_usage,
+        count: n,
+    };
+    let mut open = Discoveries {
+        keys: discovery_keys,
+        words: discovery_words,
+        ends: discovery_ends,
+        count: m,
+    };
+    let answer = route_begin::advertise(
+        &mut held,
+        &mut open,
         Nwk(own),
         id,
         now_ms,
         route_discovery_time,
     );
-    *routes = x.routes;
-    *discoveries = x.discoveries;
-    let answer = x.answer;
+    *routes = held.count;
+    *discoveries = open.count;
     say_begun(answer, id, request_sequence_number, request_id)
 }

@@ -7,9 +7,9 @@ mod outcome;
 ghost use Rattle.std.specs.Prelude.{false, ◌≡◌, ◌≤◌};
 ghost use Rattle.standard.specs.Route.{nwk};
 ghost use Rattle.standard.specs.Tells.{Tells};
-ghost use Rattle.route_table.specs.Table as route;
-ghost use Rattle.record_table.specs.Table as record_of;
-ghost use Rattle.relay_store.specs.Packed.{Together};
+ghost use Rattle.route_table.specs.Lent.{seen_routes};
+ghost use Rattle.record_table.specs.Lent.{seen_table};
+ghost use Rattle.relay_store.specs.Store.{Agrees};
 ghost use Rattle.neighbor_columns.specs.Lent as rows;
 ghost use Rattle.neighbor_queries_lent.specs.Read.{lent_words};
 ghost use Rattle.frame.specs.declared.NwkHeader.{NwkHeader};
@@ -22,6 +22,8 @@ ghost use Rattle.door_decision.specs.Header.{header_at, Values, header_in};
 ghost use Rattle.door_decision.specs.Decision.{resolve_at, resolve_numbers, ResolveAsked, ResolveByDefault};
 
 use hop_choice::{Policy, SendKind};
+use record_table::RecordsSeen;
+use route_table::RoutesSeen;
 use types::Nwk;
 
 // Whether the numbers of a call are values of their fields, and there are places for 32 relays.
@@ -43,16 +45,11 @@ fn is_call(
                     & ((source_route <= 1) & ((has_source_route <= 1) & (places == 32))))))
 }
 
-// The decision on routes and records that are well formed, a store that agrees, and lists that have their places. Of the neighbours it reads network
+// The decision on routes and records that are lent, a store that agrees, and lists that have their places. Of the neighbours it reads network
 // addresses and link words, of the header the destination and whether no route may be discovered.
 fn decide(
-    route_keys: &[u16],
-    route_words: &[u64],
-    route_usage: &[u32],
-    routes: usize,
-    record_keys: &[u16],
-    record_lengths: &[u8],
-    records: usize,
+    routes: &RoutesSeen,
+    records: &RecordsSeen,
     store: &[u16],
     nwks: &[u16],
     links: &[u64],
@@ -70,14 +67,13 @@ fn decide(
     decision: &mut u8,
     next_hop: &mut u16,
 ) -> u8
-    requires { route.WellFormed (route.in_columns route_keys.now route_words.now route_usage.now routes)
-        × Together (record_of.in_columns record_keys.now record_lengths.now records) store.now
+    requires { Agrees (seen_table records.now) store.now
         × OfTable nwks.now links.now count
         × (kind_long (given host_relays.now) kind ≡ false)
         × Values (header_at discover_route.old source_route.old has_source_route.old relay_index.old relay_count.old relays.old) }
     ensures { rows.Asked (lent_words nwks.now links.now count)
         (λ xs. Asked resolve_numbers
-        (λ (h : NwkHeader). decided_on (route.rows_of (route.in_columns route_keys.now route_words.now route_usage.now routes)) (record_of.in_columns record_keys.now record_lengths.now records) xs h (record { kind = kind; relays = given host_relays.now }) policy store.now)
+        (λ (h : NwkHeader). decided_on (seen_routes routes.now) (seen_table records.now) xs h (record { kind = kind; relays = given host_relays.now }) policy store.now)
         (header_in destination (header_at discover_route.old source_route.old has_source_route.old relay_index.old relay_count.old relays.old))
         (resolve_at discover_route.old source_route.old has_source_route.old relay_index.old relay_count.old relays.old decision.old next_hop.old)
         (resolve_at discover_route.new source_route.new has_source_route.new relay_index.new relay_count.new relays.new decision.new next_hop.new)
@@ -85,12 +81,7 @@ fn decide(
 {
     let suppressed = *discover_route == 0;
     let choice = hop_choice::choose(
-        route_keys,
-        route_words,
-        route_usage,
         routes,
-        record_keys,
-        record_lengths,
         records,
         nwks,
         links,
@@ -103,7 +94,7 @@ fn decide(
     );
     outcome::say_choice(
         choice,
-        record_lengths,
+        records.lengths,
         store,
         host_relays,
         discover_route,
@@ -216,14 +207,20 @@ pub extern "C" fn warpteasel_raw_resolve(
         force_route_discovery: force_route_discovery == 1,
         max_source_route,
     };
+    let held = RoutesSeen {
+        keys: route_keys,
+        words: route_words,
+        usage: route_usage,
+        count: routes,
+    };
+    let kept = RecordsSeen {
+        keys: record_keys,
+        lengths: record_lengths,
+        count: records,
+    };
     decide(
-        route_keys,
-        route_words,
-        route_usage,
-        routes,
-        record_keys,
-        record_lengths,
-        records,
+        &held,
+        &kept,
         store,
         nwks,
         links,

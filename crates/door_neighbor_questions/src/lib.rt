@@ -14,6 +14,7 @@ use neighbor_queries::{Capability, NeighborLink};
 use types::{Eui64, Nwk, Refusal};
 
 // The places of a radio link: whether there is one, the neighbour's extended address, and the cost of the link both ways.
+// A flag or a number beside the values, and no Option or enum, since C reads these places.
 #[derive(Drop)]
 pub struct LinkPlaces {
     pub found: u8,
@@ -23,6 +24,7 @@ pub struct LinkPlaces {
 }
 
 // The places of what a neighbour can do: whether it is one, its device type by number, and whether it listens when idle.
+// A flag or a number beside the values, and no Option or enum, since C reads these places.
 #[derive(Drop)]
 pub struct CapabilityPlaces {
     pub found: u8,
@@ -31,6 +33,7 @@ pub struct CapabilityPlaces {
 }
 
 // The places of a moment that there may be: whether there is one, and the moment.
+// A flag or a number beside the values, and no Option or enum, since C reads these places.
 #[derive(Drop)]
 pub struct MomentPlaces {
     pub found: u8,

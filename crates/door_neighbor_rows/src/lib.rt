@@ -11,6 +11,7 @@ ghost use Rattle.door_neighbor_rows.specs.Rows.{neighbor_at_places, quality_plac
 use neighbor_table::NeighborEntry;
 
 // The places of the quality at which a neighbour is heard: whether it is known, and the quality.
+// A flag or a number beside the values, and no Option or enum, since C reads these places.
 #[derive(Drop)]
 pub struct QualityPlaces {
     pub known: u8,
@@ -18,6 +19,7 @@ pub struct QualityPlaces {
 }
 
 // The places of a neighbour: whether there is one, its fields, and what is read off them; a yes or a no is 1 or 0.
+// A flag or a number beside the values, and no Option or enum, since C reads these places.
 #[derive(Drop)]
 pub struct NeighborPlaces {
     pub found: u8,

@@ -11,6 +11,7 @@ ghost use Rattle.door_neighbors.specs.Answers.{done_status, truth_numbers, name_
 use types::{Eui64, Nwk, Refusal};
 
 // The places of an extended address that there may be: whether there is one, and the address.
+// A flag or a number beside the values, and no Option or enum, since C reads these places.
 #[derive(Drop)]
 pub struct NamePlaces {
     pub found: u8,
@@ -18,6 +19,7 @@ pub struct NamePlaces {
 }
 
 // The places of a network address that there may be: whether there is one, and the address.
+// A flag or a number beside the values, and no Option or enum, since C reads these places.
 #[derive(Drop)]
 pub struct AddressPlaces {
     pub found: u8,

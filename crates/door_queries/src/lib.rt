@@ -9,11 +9,14 @@ ghost use Rattle.routing.specs.Records.{record_count};
 ghost use Rattle.door.specs.Lent.{lent, Says, Asked};
 ghost use Rattle.door_queries.specs.Questions.{hop_at, hop_numbers, status_at, status_places, status_numbers, deadline_at, deadline_places, deadline_numbers, count_numbers, check_at, check_places, check_numbers};
 
+use discovery_table::DiscoveriesSeen;
 use route_calls::Checked;
+use route_table::RoutesSeen;
 use standard::Status;
 use types::{Nwk, Refusal};
 
 // The places of a next hop: whether there is one, and the hop.
+// A flag or a number beside the values, and no Option or enum, since C reads these places.
 #[derive(Drop)]
 pub struct HopPlaces {
     pub found: u8,
@@ -21,6 +24,7 @@ pub struct HopPlaces {
 }
 
 // The places of a route's status: whether there is a route, and its status by number.
+// A flag or a number beside the values, and no Option or enum, since C reads these places.
 #[derive(Drop)]
 pub struct StatusPlaces {
     pub found: u8,
@@ -28,6 +32,7 @@ pub struct StatusPlaces {
 }
 
 // The places of a deadline: whether there is a discovery, and when it is over.
+// A flag or a number beside the values, and no Option or enum, since C reads these places.
 #[derive(Drop)]
 pub struct DeadlinePlaces {
     pub found: u8,
@@ -35,6 +40,7 @@ pub struct DeadlinePlaces {
 }
 
 // The places of the table check: sound 0; an Active route with an unknown hop 1, a search that no discovery names 2, and the route's destination.
+// A flag or a number beside the values, and no Option or enum, since C reads these places.
 #[derive(Drop)]
 pub struct CheckPlaces {
     pub fault: u8,
@@ -143,13 +149,13 @@ pub extern "C" fn warpteasel_raw_next_hop(
     ) {
         return 10;
     }
-    let hop = route_calls::next_hop(
-        route_keys,
-        route_words,
-        route_usage,
-        routes,
-        Nwk(destination),
-    );
+    let held = RoutesSeen {
+        keys: route_keys,
+        words: route_words,
+        usage: route_usage,
+        count: routes,
+    };
+    let hop = route_calls::next_hop(&held, Nwk(destination));
     say_hop(hop, found, next_hop)
 }
 
@@ -190,13 +196,13 @@ pub extern "C" fn warpteasel_raw_route_status(
     ) {
         return 10;
     }
-    let x = route_calls::route_status(
-        route_keys,
-        route_words,
-        route_usage,
-        routes,
-        Nwk(destination),
-    );
+    let held = RoutesSeen {
+        keys: route_keys,
+        words: route_words,
+        usage: route_usage,
+        count: routes,
+    };
+    let x = route_calls::route_status(&held, Nwk(destination));
     let y = status_places(x);
     *found = y.found;
     *status = y.status;
@@ -241,14 +247,13 @@ pub extern "C" fn warpteasel_raw_discovery_deadline(
     ) {
         return 10;
     }
-    let x = discovery_table::discovery_deadline(
-        discovery_keys,
-        discovery_words,
-        discovery_ends,
-        discoveries,
-        Nwk(destination),
-        now_ms,
-    );
+    let open = DiscoveriesSeen {
+        keys: discovery_keys,
+        words: discovery_words,
+        ends: discovery_ends,
+        count: discoveries,
+    };
+    let x = open.discovery_deadline(Nwk(destination), now_ms);
     let y = deadline_places(x);
     *found = y.found;
     *time = y.time;
@@ -291,16 +296,19 @@ pub extern "C" fn warpteasel_raw_check(
     ) {
         return 10;
     }
-    let x = route_calls::check(
-        route_keys,
-        route_words,
-        route_usage,
-        routes,
-        discovery_keys,
-        discovery_words,
-        discovery_ends,
-        discoveries,
-    );
+    let held = RoutesSeen {
+        keys: route_keys,
+        words: route_words,
+        usage: route_usage,
+        count: routes,
+    };
+    let open = DiscoveriesSeen {
+        keys: discovery_keys,
+        words: discovery_words,
+        ends: discovery_ends,
+        count: discoveries,
+    };
+    let x = route_calls::check(&held, &open);
     let y = check_places(x);
     *fault = y.fault;
     *destination = y.destination;

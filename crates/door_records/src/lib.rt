@@ -8,6 +8,7 @@ ghost use Rattle.standard.specs.Route.{nwk};
 ghost use Rattle.door.specs.Lent.{lent, Says};
 ghost use Rattle.door_records.specs.Records.{given, record_numbers, RecordMade};
 
+use record_table::Records;
 use standard::RelayList;
 use types::{Nwk, Refusal};
 
@@ -86,8 +87,12 @@ pub fn warpteasel_raw_store_route_record(
         return 8;
     }
     let list = relays_given(relays);
-    let x = route_record::store_record(record_keys, record_lengths, k, store, Nwk(source), list);
-    *records = x.records;
-    let answer = x.answer;
+    let mut held = Records {
+        keys: record_keys,
+        lengths: record_lengths,
+        count: k,
+    };
+    let answer = route_record::store_record(&mut held, store, Nwk(source), list);
+    *records = held.count;
     say_record(answer, changed)
 }

@@ -3,6 +3,7 @@ ghost use Rattle.standard.specs.Route.{nwk};
 ghost use Rattle.door.specs.Lent.{lent};
 ghost use Rattle.door_records.specs.Records.{RemovedMade};
 
+use record_table::Records;
 use types::Nwk;
 
 // The record of a destination is removed; whether there was one.
@@ -47,8 +48,13 @@ pub fn warpteasel_raw_remove_route_record(
     if !relay_store::agrees(record_lengths, store) {
         return 9;
     }
-    let x = route_record::remove_record(record_keys, record_lengths, k, store, Nwk(destination));
-    *records = x.records;
-    *removed = door::flag(x.removed);
+    let mut held = Records {
+        keys: record_keys,
+        lengths: record_lengths,
+        count: k,
+    };
+    let was_there = route_record::remove_record(&mut held, store, Nwk(destination));
+    *records = held.count;
+    *removed = door::flag(was_there);
     0
 }

@@ -7,6 +7,7 @@ ghost use Rattle.routing.specs.Routes.{restore_route, note_relayed_discovery, re
 ghost use Rattle.door.specs.Lent.{lent};
 ghost use Rattle.door.specs.Places.{DoneMade, ToldMade};
 
+use route_table::Routes;
 use types::Nwk;
 
 // A client hands back a route on startup; the whole entry is written anew.
@@ -48,17 +49,14 @@ pub extern "C" fn warpteasel_raw_restore_route(
     ) {
         return 10;
     }
-    let x = route_calls::restore_route(
-        route_keys,
-        route_words,
-        route_usage,
-        n,
-        Nwk(destination),
-        Nwk(next_hop),
-        path_cost,
-    );
-    *routes = x.routes;
-    let answer = x.answer;
+    let mut held = Routes {
+        keys: route_keys,
+        words: route_words,
+        usage: route_usage,
+        count: n,
+    };
+    let answer = route_calls::restore_route(&mut held, Nwk(destination), Nwk(next_hop), path_cost);
+    *routes = held.count;
     door::done_status(answer)
 }
 
@@ -99,15 +97,14 @@ pub extern "C" fn warpteasel_raw_note_relayed_discovery(
     ) {
         return 10;
     }
-    let x = route_calls::note_relayed_discovery(
-        route_keys,
-        route_words,
-        route_usage,
-        n,
-        Nwk(destination),
-    );
-    *routes = x.routes;
-    let answer = x.answer;
+    let mut held = Routes {
+        keys: route_keys,
+        words: route_words,
+        usage: route_usage,
+        count: n,
+    };
+    let answer = route_calls::note_relayed_discovery(&mut held, Nwk(destination));
+    *routes = held.count;
     door::done_status(answer)
 }
 
@@ -149,8 +146,14 @@ pub extern "C" fn warpteasel_raw_remove_route(
     ) {
         return 10;
     }
-    let x = route_calls::remove_route(route_keys, route_words, route_usage, n, Nwk(destination));
-    *routes = x.routes;
-    *removed = door::flag(x.removed);
+    let mut held = Routes {
+        keys: route_keys,
+        words: route_words,
+        usage: route_usage,
+        count: n,
+    };
+    let was = route_calls::remove_route(&mut held, Nwk(destination));
+    *routes = held.count;
+    *removed = door::flag(was);
     0
 }

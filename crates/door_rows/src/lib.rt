@@ -7,9 +7,12 @@ ghost use Rattle.routing.specs.Queries.{route_at, discovery_at};
 ghost use Rattle.door.specs.Lent.{lent, Asked};
 ghost use Rattle.door_rows.specs.Rows.{route_at_places, route_places, route_numbers, discovery_at_places, discovery_places, discovery_numbers};
 
+use discovery_table::DiscoveriesSeen;
+use route_table::RoutesSeen;
 use standard::{DiscoveryEntry, RouteEntry};
 
 // The places of a route: whether there is one, and its fields; a yes or a no is 1 or 0.
+// A flag or a number beside the values, and no Option or enum, since C reads these places.
 #[derive(Drop)]
 pub struct RoutePlaces {
     pub found: u8,
@@ -26,6 +29,7 @@ pub struct RoutePlaces {
 }
 
 // The places of a discovery: whether there is one, and its fields.
+// A flag or a number beside the values, and no Option or enum, since C reads these places.
 #[derive(Drop)]
 pub struct DiscoveryPlaces {
     pub found: u8,
@@ -151,7 +155,13 @@ pub extern "C" fn warpteasel_raw_route_at(
     ) {
         return 10;
     }
-    let x = route_table::at(route_keys, route_words, route_usage, routes, place);
+    let held = RoutesSeen {
+        keys: route_keys,
+        words: route_words,
+        usage: route_usage,
+        count: routes,
+    };
+    let x = held.at(place);
     let y = route_places(x);
     *found = y.found;
     *destination = y.destination;
@@ -212,13 +222,13 @@ pub extern "C" fn warpteasel_raw_discovery_at(
     ) {
         return 10;
     }
-    let x = discovery_table::at(
-        discovery_keys,
-        discovery_words,
-        discovery_ends,
-        discoveries,
-        place,
-    );
+    let open = DiscoveriesSeen {
+        keys: discovery_keys,
+        words: discovery_words,
+        ends: discovery_ends,
+        count: discoveries,
+    };
+    let x = open.at(place);
     let y = discovery_places(x);
     *found = y.found;
     *source_address = y.source_address;

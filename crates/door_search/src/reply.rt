@@ -5,6 +5,8 @@ ghost use Rattle.door.specs.Lent.{lent, Says};
 ghost use Rattle.door_search.specs.Reply.{disposition_places, reply_at, reply_numbers, ReplyMade};
 
 use crate::DispositionPlaces;
+use discovery_table::DiscoveryValues;
+use route_table::Routes;
 use standard::{RouteReplyDisposition, RouteUpdate};
 use types::{Nwk, Refusal};
 
@@ -119,15 +121,21 @@ pub extern "C" fn warpteasel_raw_accept_route_reply(
     ) {
         return 10;
     }
-    let x = route_reply::reply(
-        route_keys,
-        route_words,
-        route_usage,
-        n,
-        discovery_keys,
-        discovery_words,
-        discovery_ends,
-        discoveries,
+    let mut held = Routes {
+        keys: route_keys,
+        words: route_words,
+        usage: route_usage,
+        count: n,
+    };
+    let mut open = DiscoveryValues {
+        keys: discovery_keys,
+        words: discovery_words,
+        ends: discovery_ends,
+        count: discoveries,
+    };
+    let answer = route_reply::reply(
+        &mut held,
+        &mut open,
         Nwk(own),
         Nwk(originator),
         request_id,
@@ -135,8 +143,7 @@ pub extern "C" fn warpteasel_raw_accept_route_reply(
         Nwk(sender),
         updated_path_cost,
     );
-    *routes = x.routes;
-    let answer = x.answer;
+    *routes = held.count;
     say_reply(
         answer,
         disposition,

@@ -3,6 +3,8 @@ ghost use Rattle.standard.specs.Route.{nwk};
 ghost use Rattle.door.specs.Lent.{lent, Says};
 ghost use Rattle.door_search.specs.Request.{request_at, request_numbers, RequestMade};
 
+use discovery_table::Discoveries;
+use route_table::Routes;
 use standard::RouteUpdate;
 use types::{Nwk, Refusal};
 
@@ -92,15 +94,21 @@ pub extern "C" fn warpteasel_raw_accept_route_request(
         return 10;
     }
     let field = route_args::many_to_one(many_to_one as u64);
-    let x = route_request::request(
-        route_keys,
-        route_words,
-        route_usage,
-        n,
-        discovery_keys,
-        discovery_words,
-        discovery_ends,
-        m,
+    let mut held = Routes {
+        keys: route_keys,
+        words: route_words,
+        usage: route_usage,
+        count: n,
+    };
+    let mut open = Discoveries {
+        keys: discovery_keys,
+        words: discovery_words,
+        ends: discovery_ends,
+        count: m,
+    };
+    let answer = route_request::request(
+        &mut held,
+        &mut open,
         Nwk(originator),
         request_id,
         Nwk(destination),
@@ -110,9 +118,8 @@ pub extern "C" fn warpteasel_raw_accept_route_request(
         now_ms,
         route_discovery_time,
     );
-    *routes = x.routes;
-    *discoveries = x.discoveries;
-    let answer = x.answer;
+    *routes = held.count;
+    *discoveries = open.count;
     say_request(
         answer,
         accepted,

@@ -7,6 +7,7 @@ ghost use Rattle.routing.specs.Routes.{mark_discovery_failed, record_usage, note
 ghost use Rattle.door.specs.Lent.{lent};
 ghost use Rattle.door.specs.Places.{DoneMade};
 
+use route_table::RouteValues;
 use types::Nwk;
 
 // No discovery of the way to a destination has brought one.
@@ -45,13 +46,13 @@ pub extern "C" fn warpteasel_raw_mark_discovery_failed(
     ) {
         return 10;
     }
-    route_calls::mark_discovery_failed(
-        route_keys,
-        route_words,
-        route_usage,
-        routes,
-        Nwk(destination),
-    );
+    let mut held = RouteValues {
+        keys: route_keys,
+        words: route_words,
+        usage: route_usage,
+        count: routes,
+    };
+    route_calls::mark_discovery_failed(&mut held, Nwk(destination));
     0
 }
 
@@ -91,13 +92,13 @@ pub extern "C" fn warpteasel_raw_record_usage(
     ) {
         return 10;
     }
-    route_calls::record_usage(
-        route_keys,
-        route_words,
-        route_usage,
-        routes,
-        Nwk(destination),
-    );
+    let mut held = RouteValues {
+        keys: route_keys,
+        words: route_words,
+        usage: route_usage,
+        count: routes,
+    };
+    route_calls::record_usage(&mut held, Nwk(destination));
     0
 }
 
@@ -137,13 +138,13 @@ pub extern "C" fn warpteasel_raw_note_source_routed_frame(
     ) {
         return 10;
     }
-    route_calls::note_source_routed_frame(
-        route_keys,
-        route_words,
-        route_usage,
-        routes,
-        Nwk(concentrator),
-    );
+    let mut held = RouteValues {
+        keys: route_keys,
+        words: route_words,
+        usage: route_usage,
+        count: routes,
+    };
+    route_calls::note_source_routed_frame(&mut held, Nwk(concentrator));
     0
 }
 

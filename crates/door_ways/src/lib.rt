@@ -3,13 +3,15 @@
 
 ghost use Rattle.std.specs.Prelude.{◌≡◌, length};
 ghost use Rattle.standard.specs.Route.{nwk};
-ghost use Rattle.route_table.specs.Table as route;
+ghost use Rattle.route_table.specs.Lent.{seen_routes};
 ghost use Rattle.routing.specs.Records.{hop_to, answer_in};
 ghost use Rattle.door.specs.Lent.{lent, Says};
 ghost use Rattle.door_ways.specs.Relays.{out, relayed_at, relayed_with};
 ghost use Rattle.door_ways.specs.Rows.{row_beside, row_numbers, RowAsked};
 ghost use Rattle.door_ways.specs.Ways.{beside, way_numbers, WayAsked, WayByDefault};
 
+use record_table::RecordsSeen;
+use route_table::RoutesSeen;
 use standard::{RecordEntry, RecordRoute, RelayList};
 use types::{Nwk, Refusal};
 
@@ -73,10 +75,7 @@ fn say_hop(
 
 // The numbers of what a record's word on the way comes to: where it names none, the Active route decides.
 fn say_way(
-    route_keys: &[u16],
-    route_words: &[u64],
-    route_usage: &[u32],
-    routes: usize,
+    routes: &RoutesSeen,
     destination: Nwk,
     word: Option<RecordRoute>,
     list: RelayList,
@@ -85,8 +84,8 @@ fn say_way(
     count: &mut usize,
     relays: &mut [u16],
 ) -> u8
-    requires { route.WellFormed (route.in_columns route_keys.now route_words.now route_usage.now routes) × (length relays.old ≡ 32) }
-    ensures { Says way_numbers (beside (answer_in (route.rows_of (route.in_columns route_keys.now route_words.now route_usage.now routes)) destination word) list)
+    requires { length relays.old ≡ 32 }
+    ensures { Says way_numbers (beside (answer_in (seen_routes routes.now) destination word) list)
         (relayed_at way.old next_hop.old count.old relays.old)
         (relayed_at way.new next_hop.new count.new relays.new)
         result }
@@ -101,13 +100,7 @@ fn say_way(
             0
         }
         None => {
-            let hop = route_calls::next_hop(
-                route_keys,
-                route_words,
-                route_usage,
-                routes,
-                destination,
-            );
+            let hop = route_calls::next_hop(routes, destination);
             say_hop(hop, list, way, next_hop, count, relays)
         }
     }
@@ -163,21 +156,22 @@ pub extern "C" fn warpteasel_raw_route_to(
     if !relay_store::agrees(record_lengths, store) {
         return 9;
     }
-    let x = route_record::way_to(
-        record_keys,
-        record_lengths,
-        records,
-        store,
-        Nwk(destination),
-        max_source_route,
-    );
+    let kept = RecordsSeen {
+        keys: record_keys,
+        lengths: record_lengths,
+        count: records,
+    };
+    let x = route_record::way_to(&kept, store, Nwk(destination), max_source_route);
     let word = x.route;
     let list = x.relays;
+    let held = RoutesSeen {
+        keys: route_keys,
+        words: route_words,
+        usage: route_usage,
+        count: routes,
+    };
     say_way(
-        route_keys,
-        route_words,
-        route_usage,
-        routes,
+        &held,
         Nwk(destination),
         word,
         list,
@@ -314,7 +308,12 @@ pub extern "C" fn warpteasel_raw_record_at(
     if !relay_store::agrees(record_lengths, store) {
         return 9;
     }
-    let x = route_record::record_at(record_keys, record_lengths, records, store, place);
+    let kept = RecordsSeen {
+        keys: record_keys,
+        lengths: record_lengths,
+        count: records,
+    };
+    let x = route_record::record_at(&kept, store, place);
     let entry = x.entry;
     let list = x.relays;
     say_row(entry, list, found, destination, count, relays)

@@ -1,3 +1,4 @@
+pub mod Asked
 pub mod Fit
 pub mod Left
 pub mod Pending

@@ -1,18 +1,20 @@
-// The way of a unicast that we send, chosen from columns that are lent. The answer is small: no header, no relay store and no list of relays goes in or
+// The way of a unicast that we send, chosen from tables that are lent. The answer is small: no header, no relay store and no list of relays goes in or
 // out, and what calls this makes the outcome of it.
 #![tactic(auto)]
 
 ghost use Rattle.std.specs.Prelude.{[], ◌∷◌, ◌≡◌};
-ghost use Rattle.route_table.specs.Table as route;
-ghost use Rattle.record_table.specs.Table as record_of;
+ghost use Rattle.route_table.specs.Lent.{seen_routes};
+ghost use Rattle.record_table.specs.Lent.{seen_table};
 ghost use Rattle.neighbor_columns.specs.Lent.{Asked};
 ghost use Rattle.neighbor_queries_lent.specs.Read.{InUse, lent_words};
 ghost use Rattle.hop_choice.specs.Choice.{host_choice, undiscovered, hinted, hopped, routed, record_says, tabled, chosen};
 
 use neighbor_queries::Filter;
+use record_table::RecordsSeen;
+use route_table::RoutesSeen;
 use types::{Nwk, Refusal};
 
-// A route that the host names: a hop, or the relays beside it.
+// A route that the host names: a hop, or the relays beside it. Of the shape of an Option, but `SourceRoute` is no absence.
 #[derive(Clone, Copy)]
 pub enum HostRoute {
     NextHop(Nwk),
@@ -27,7 +29,7 @@ pub enum RouteDirective {
     Force(HostRoute),
 }
 
-// Straight to the destination, or by the routes.
+// Straight to the destination, or by the routes. Of the shape of an Option, but `Direct` is no absence.
 #[derive(Clone, Copy)]
 pub enum SendKind {
     Direct,
@@ -119,45 +121,34 @@ fn by_hop(
 
 // The Active route, unless discovery is forced.
 fn by_route(
-    route_keys: &[u16],
-    route_words: &[u64],
-    route_usage: &[u32],
-    routes: usize,
+    routes: &RoutesSeen,
     destination: Nwk,
     directive: RouteDirective,
     relays: usize,
     suppressed: bool,
     policy: Policy,
 ) -> Result<Choice, Refusal>
-    requires { route.WellFormed (route.in_columns route_keys.now route_words.now route_usage.now routes) }
-    ensures { result ≡ routed (route.rows_of (route.in_columns route_keys.now route_words.now route_usage.now routes)) destination policy relays suppressed directive }
+    ensures { result ≡ routed (seen_routes routes.now) destination policy relays suppressed directive }
 {
     if policy.force_route_discovery {
         return by_hint(directive, relays, suppressed);
     }
-    let found = route_calls::next_hop(route_keys, route_words, route_usage, routes, destination);
+    let found = route_calls::next_hop(routes, destination);
     by_hop(found, directive, relays, suppressed)
 }
 
 // What the record of a destination says to a concentrator that does not force discovery; to any other it says nothing.
-fn record_says(
-    record_keys: &[u16],
-    record_lengths: &[u8],
-    records: usize,
-    destination: Nwk,
-    policy: Policy,
-) -> RecordSays
-    requires { record_of.WellFormed (record_of.in_columns record_keys.now record_lengths.now records) }
-    ensures { result ≡ record_says policy (record_of.in_columns record_keys.now record_lengths.now records) destination }
+fn record_says(records: &RecordsSeen, destination: Nwk, policy: Policy) -> RecordSays
+    ensures { result ≡ record_says policy (seen_table records.now) destination }
 {
     if !(policy.is_concentrator & !policy.force_route_discovery) {
         return RecordSays::Nothing;
     }
-    let place = record_table::place_of(record_keys, record_lengths, records, destination);
+    let place = records.place_of(destination);
     let Ok(i) = place else {
         return RecordSays::Nothing;
     };
-    let n = record_lengths[i];
+    let n = records.lengths[i];
     if n == 0 {
         return RecordSays::Direct;
     }
@@ -169,35 +160,19 @@ fn record_says(
 
 // The record of the destination, and then the Active route.
 fn by_tables(
-    route_keys: &[u16],
-    route_words: &[u64],
-    route_usage: &[u32],
-    routes: usize,
-    record_keys: &[u16],
-    record_lengths: &[u8],
-    records: usize,
+    routes: &RoutesSeen,
+    records: &RecordsSeen,
     destination: Nwk,
     directive: RouteDirective,
     relays: usize,
     suppressed: bool,
     policy: Policy,
 ) -> Result<Choice, Refusal>
-    requires { route.WellFormed (route.in_columns route_keys.now route_words.now route_usage.now routes) × record_of.WellFormed (record_of.in_columns record_keys.now record_lengths.now records) }
-    ensures { result ≡ tabled (route.rows_of (route.in_columns route_keys.now route_words.now route_usage.now routes)) (record_of.in_columns record_keys.now record_lengths.now records) destination policy relays suppressed directive }
+    ensures { result ≡ tabled (seen_routes routes.now) (seen_table records.now) destination policy relays suppressed directive }
 {
-    let says = record_says(record_keys, record_lengths, records, destination, policy);
+    let says = record_says(records, destination, policy);
     match says {
-        RecordSays::Nothing => by_route(
-            route_keys,
-            route_words,
-            route_usage,
-            routes,
-            destination,
-            directive,
-            relays,
-            suppressed,
-            policy,
-        ),
+        RecordSays::Nothing => by_route(routes, destination, directive, relays, suppressed, policy),
         RecordSays::Direct => Ok(Choice::Hop(destination)),
         RecordSays::Row(i) => Ok(Choice::ByRecord(i)),
     }
@@ -206,13 +181,8 @@ fn by_tables(
 // The way to a destination: straight in direct mode, by a forced host route, straight to an end device child, by the tables, by the host's hint.
 // `relays` is how many relays the host names; `suppressed`, whether no route may be discovered.
 pub fn choose(
-    route_keys: &[u16],
-    route_words: &[u64],
-    route_usage: &[u32],
-    routes: usize,
-    record_keys: &[u16],
-    record_lengths: &[u8],
-    records: usize,
+    routes: &RoutesSeen,
+    records: &RecordsSeen,
     nwks: &[u16],
     links: &[u64],
     neighbors: usize,
@@ -222,8 +192,8 @@ pub fn choose(
     suppressed: bool,
     kind: SendKind,
 ) -> Result<Choice, Refusal>
-    requires { route.WellFormed (route.in_columns route_keys.now route_words.now route_usage.now routes) × record_of.WellFormed (record_of.in_columns record_keys.now record_lengths.now records) × InUse neighbors (nwks.now ∷ links.now ∷ []) }
-    ensures { Asked (lent_words nwks.now links.now neighbors) (λ xs. result ≡ chosen (route.rows_of (route.in_columns route_keys.now route_words.now route_usage.now routes)) (record_of.in_columns record_keys.now record_lengths.now records) xs destination policy relays suppressed kind) }
+    requires { InUse neighbors (nwks.now ∷ links.now ∷ []) }
+    ensures { Asked (lent_words nwks.now links.now neighbors) (λ xs. result ≡ chosen (seen_routes routes.now) (seen_table records.now) xs destination policy relays suppressed kind) }
 {
     let SendKind::Route(directive) = kind else {
         return Ok(Choice::Hop(destination));
@@ -236,12 +206,7 @@ pub fn choose(
         return Ok(Choice::Hop(destination));
     }
     by_tables(
-        route_keys,
-        route_words,
-        route_usage,
         routes,
-        record_keys,
-        record_lengths,
         records,
         destination,
         directive,

@@ -6,10 +6,9 @@ mod modes;
 mod outcome;
 
 ghost use Rattle.std.specs.Prelude.{false, ◌≡◌};
-ghost use Rattle.route_table.specs.Table as route;
-ghost use Rattle.record_table.specs.Table as record_of;
+ghost use Rattle.route_table.specs.Lent.{seen_routes};
+ghost use Rattle.record_table.specs.Lent.{seen_table};
 ghost use Rattle.relay_store.specs.Store.{Agrees};
-ghost use Rattle.relay_store.specs.Packed.{Together};
 ghost use Rattle.neighbor_columns.specs.Lent.{Asked};
 ghost use Rattle.neighbor_queries_lent.specs.Read.{lent_words};
 ghost use Rattle.routing.specs.State as routes;
@@ -21,6 +20,8 @@ ghost use Rattle.next_hop.specs.Decision.{names_long, decided_on, decided, resol
 use frame::NwkHeader;
 use hop_choice::{Policy, SendKind};
 use neighbors::Neighbors;
+use record_table::RecordsSeen;
+use route_table::RoutesSeen;
 use routing::Routing;
 use standard::RelayList;
 use types::{Nwk, Refusal};
@@ -47,16 +48,11 @@ pub struct ResolveOutcome {
     pub header: NwkHeader,
 }
 
-// The decision on columns that are lent: routes and records that are well formed, a store that agrees, and lists that have their places.
+// The decision on routes and records that are lent, a store that agrees, and lists that have their places.
 // Of the neighbours it reads network addresses and link words.
 pub fn decide<'a>(
-    route_keys: &'a [u16],
-    route_words: &'a [u64],
-    route_usage: &'a [u32],
-    routes: usize,
-    record_keys: &'a [u16],
-    record_lengths: &'a [u8],
-    records: usize,
+    routes: &RoutesSeen,
+    records: &RecordsSeen,
     store: &[u16],
     nwks: &'a [u16],
     links: &'a [u64],
@@ -65,20 +61,15 @@ pub fn decide<'a>(
     mode: SendMode,
     policy: Policy,
 ) -> ResolveOutcome
-    requires { route.WellFormed (route.in_columns route_keys.now route_words.now route_usage.now routes) × Together (record_of.in_columns record_keys.now record_lengths.now records) store.now × OfTable nwks.now links.now count × (names_long mode ≡ false) }
-    ensures { Asked (lent_words nwks.now links.now count) (λ xs. result ≡ decided_on (route.rows_of (route.in_columns route_keys.now route_words.now route_usage.now routes)) (record_of.in_columns record_keys.now record_lengths.now records) xs header mode policy store.now) }
+    requires { Agrees (seen_table records.now) store.now × OfTable nwks.now links.now count × (names_long mode ≡ false) }
+    ensures { Asked (lent_words nwks.now links.now count) (λ xs. result ≡ decided_on (seen_routes routes.now) (seen_table records.now) xs header mode policy store.now) }
 {
     let kind = mode.kind;
     let relays = mode.relays;
     let control = header.frame_control;
     let discovery = control.discover_route;
     let choice = hop_choice::choose(
-        route_keys,
-        route_words,
-        route_usage,
         routes,
-        record_keys,
-        record_lengths,
         records,
         nwks,
         links,
@@ -89,7 +80,7 @@ pub fn decide<'a>(
         discovery.is_suppressed(),
         kind,
     );
-    outcome::make(choice, record_lengths, store, header, relays)
+    outcome::make(choice, records.lengths, store, header, relays)
 }
 
 // `resolve` on states that are well formed, a store that agrees and lists that have their places.
@@ -104,21 +95,11 @@ pub fn resolve_core(
     requires { routes.WellFormed routing × neighbours.WellFormed neighbors × Agrees (record_table routing) store.now × (names_long mode ≡ false) }
     ensures { result ≡ decided routing neighbors header mode policy store.now }
 {
-    let route_keys = routing.route_keys;
-    let route_words = routing.route_words;
-    let route_usage = routing.route_usage;
-    let record_keys = routing.record_keys;
-    let record_lengths = routing.record_lengths;
     let nwks = neighbors.nwks;
     let links = neighbors.links;
     decide(
-        &route_keys,
-        &route_words,
-        &route_usage,
-        routing.routes,
-        &record_keys,
-        &record_lengths,
-        routing.records,
+        &routing.routes_seen(),
+        &routing.records_seen(),
         store,
         &nwks,
         &links,
@@ -129,7 +110,7 @@ pub fn resolve_core(
     )
 }
 
-// The next hop by a policy. The columns of both states are tested and lent where they stand.
+// The next hop by a policy. Both states are tested and lent where they stand.
 pub fn resolve(
     routing: Routing,
     neighbors: Neighbors,
@@ -179,13 +160,8 @@ pub fn resolve(
         return outcome::refuse(header, Refusal::ListTooLong);
     }
     decide(
-        &routing.route_keys,
-        &routing.route_words,
-        &routing.route_usage,
-        routing.routes,
-        &routing.record_keys,
-        &routing.record_lengths,
-        routing.records,
+        &routing.routes_seen(),
+        &routing.records_seen(),
         store,
         &neighbors.nwks,
         &neighbors.links,

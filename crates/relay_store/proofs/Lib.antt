@@ -5,3 +5,4 @@ pub mod Agree
 pub mod Packing
 pub mod Steps
 pub mod Worked
+pub mod Lent

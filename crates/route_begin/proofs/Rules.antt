@@ -23,10 +23,9 @@ use Rattle.standard.specs.Route.{nwk, route_key, route_or, with_status}
 use Rattle.standard.specs.Tables.{Tables}
 use Rattle.route_table.specs.Table as route
 use Rattle.discovery_table.specs.Table as discovery
-use Rattle.search_tables.specs.Packed.{SearchTables, in_columns, WellFormed, tables_of, Fits, Holds, InKey}
+use Rattle.search_tables.specs.Packed.{SearchTables, WellFormed, tables_of, Fits, Holds, InKey}
 use Rattle.search_tables.proofs.Packing.{search-fits, route-or-key, routes-after, discoveries-after, both_hold, holds-itself}
 use Rattle.expiry.proofs.Fit.{expired-fits}
-use Rattle.route_begin.specs.declared.BeginResult.{BeginResult}
 use Rattle.route_begin.specs.Answer.{BeginStep, refused, begun_with, by_time, begun_on, begun, advertised, Leaves}
 use Rattle.route_begin.specs.Marked.{marked_routes, marked, noted, began_new}
 
@@ -40,21 +39,12 @@ pub leaves-as : (s : SearchTables) (answer : Result ℕ Refusal) (x y : BeginSte
 leaves-as s answer x y q l = subst (λ (z : BeginStep). Leaves s answer z) q l
 
 -- a refusal writes nothing
-pub leaves-refused : (s : SearchTables) → WellFormed s → (why : Refusal) (r : BeginResult) → r ≡ record { answer = Err why; routes = s.routes.count; discoveries = s.discoveries.count }
-    → (x : BeginStep) → x ≡ refused (tables_of s) why
-    → Leaves (in_columns s.routes.keys s.routes.words s.routes.usage r.routes s.discoveries.keys s.discoveries.words s.discoveries.ends r.discoveries) r.answer x
-leaves-refused s w why r e x q =
-    subst
-    (λ (z : BeginResult). Leaves (in_columns s.routes.keys s.routes.words s.routes.usage z.routes s.discoveries.keys s.discoveries.words s.discoveries.ends z.discoveries) z.answer x)
-    (sym e) (leaves-as s (Err why) (refused (tables_of s) why) x (sym q) (record { said = refl; left = holds-itself s w }))
+pub leaves-refused : (s : SearchTables) → WellFormed s → (why : Refusal) (x : BeginStep) → x ≡ refused (tables_of s) why → Leaves s (Err why) x
+leaves-refused s w why x q = leaves-as s (Err why) (refused (tables_of s) why) x (sym q) (record { said = refl; left = holds-itself s w })
 
 -- the route that is marked stands under its destination
 pub marked-key : (destination : Nwk) (xs : List RouteEntry) → route_key (with_status DiscoveryUnderway (route_or destination xs)) ≡ destination.0
 marked-key destination xs = route-or-key destination (record { routes = xs; discoveries = [] })
-
-pub holds-marked : (destination : Nwk) (xs : List RouteEntry) (u : route.RouteTable) (e : RouteEntry) → e ≡ with_status DiscoveryUnderway (route_or destination xs)
-    → route.Holds u (put route_key e xs) → route.Holds u (marked_routes destination xs)
-holds-marked destination xs u e q h = subst (λ (x : RouteEntry). route.Holds u (put route_key x xs)) q h
 
 -- what is made in the tables that the expiry leaves
 module _ (now : ℕ) (old : Tables) (left : SearchTables) (h : Holds left (expired now old)) where

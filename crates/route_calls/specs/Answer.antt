@@ -8,7 +8,8 @@ use Rattle.standard.specs.declared.RouteEntry.{RouteEntry}
 use Rattle.standard.specs.Calls.{has_route, is_unknown, lacks_hop}
 use Rattle.standard.specs.Ordered.{remove}
 use Rattle.standard.specs.Route.{route_key}
-use Rattle.route_table.specs.Table as routes
+use Rattle.route_table.specs.declared.Routes.{Routes}
+use Rattle.route_table.specs.Lent.{routes_of, Becomes}
 use Rattle.route_calls.specs.declared.Checked.{Checked}
 use Rattle.route_calls.specs.declared.Checked.TheVariants.{Sound, UnknownHop, Orphan}
 use Rattle.types.specs.declared.Refusal.{Refusal}
@@ -22,15 +23,15 @@ pub record RouteStep : Type 0 where
 unfoldable pub step_to : List RouteEntry → List RouteEntry → RouteStep
 step_to old xs = cond (leb (length xs) 64) (record { answer = Ok tt; rows = xs }) (record { answer = Err RouteTableFull; rows = old })
 
--- a step's answer, and columns that hold its rows
-pub record Leaves (t : routes.RouteTable) (answer : Result Unit Refusal) (x : RouteStep) : Type 0 where
+-- a step's answer, and what is lent with its rows
+pub record Leaves (old new : Routes) (answer : Result Unit Refusal) (x : RouteStep) : Type 0 where
   pub said : answer ≡ x.answer
-  pub left : routes.Holds t x.rows
+  pub left : Becomes old new x.rows
 
--- whether there was a route under k, and columns without it
-pub record LeavesWithout (t : routes.RouteTable) (removed : Bool) (k : ℕ) (xs : List RouteEntry) : Type 0 where
-  pub said : removed ≡ has_route k xs
-  pub left : routes.Holds t (remove route_key k xs)
+-- whether there was a route under k, and what is lent without it
+pub record LeavesWithout (old new : Routes) (removed : Bool) (k : ℕ) : Type 0 where
+  pub said : removed ≡ has_route k (routes_of old)
+  pub left : Becomes old new (remove route_key k (routes_of old))
 
 -- a hop that is not known is told apart from no route
 abbrev pub hop_answer : Option Nwk → Result (Option Nwk) Refusal

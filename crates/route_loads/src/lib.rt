@@ -6,7 +6,10 @@ pub mod prints;
 ghost use Rattle.std.specs.Prelude.{◌≡◌, ◌≤◌};
 ghost use Rattle.route_loads.specs.Loads.{loaded, no_call, list_too_long, put_counters, route_put, put_route, discovery_put, put_discovery, record_put, record_put_store, put_record, put_record_store, set_route_count, set_route_key, set_discovery_count, set_discovery_key, set_record_count, set_record_key};
 
+use discovery_table::Discoveries;
 use numbers::Answer;
+use record_table::Records;
+use route_table::Routes;
 use routing::Routing;
 use standard::{DiscoveryEntry, RelayList, RouteEntry};
 use types::{Nwk, Refusal};
@@ -60,23 +63,22 @@ pub fn put_counters(s: Routing, args: &[u64]) -> RoutingReply
 fn load_route(s: Routing, e: RouteEntry) -> RoutingReply
     ensures { result ≡ route_put e s }
 {
-    let mut keys = s.route_keys;
-    let mut words = s.route_words;
-    let mut usage = s.route_usage;
-    if !route_table::well_formed(&keys, &words, &usage, s.routes) {
+    if !route_table::well_formed(&s.route_keys, &s.route_words, &s.route_usage, s.routes) {
         return no_call(s);
     }
-    let d = e.destination;
-    let place = route_table::place_of(&keys, &words, &usage, s.routes, d);
+    let mut x = s;
+    let mut routes = Routes {
+        keys: &mut x.route_keys,
+        words: &mut x.route_words,
+        usage: &mut x.route_usage,
+        count: x.routes,
+    };
+    let place = routes.seen().place_of(e.destination);
     if !columns::has_room(place, s.routes, 64) {
         return no_call(s);
     }
-    let n = route_table::put_at(&mut keys, &mut words, &mut usage, s.routes, place, e);
-    let mut x = s;
-    x.route_keys = keys;
-    x.route_words = words;
-    x.route_usage = usage;
-    x.routes = n;
+    routes.put_at(place, e);
+    x.routes = routes.count;
     load(x)
 }
 
@@ -92,30 +94,29 @@ pub fn put_route(s: Routing, args: &[u64]) -> RoutingReply
 fn load_discovery(s: Routing, e: DiscoveryEntry) -> RoutingReply
     ensures { result ≡ discovery_put e s }
 {
-    let mut keys = s.discovery_keys;
-    let mut words = s.discovery_words;
-    let mut ends = s.discovery_ends;
-    if !discovery_table::well_formed(&keys, &words, &ends, s.discoveries) {
+    if !discovery_table::well_formed(
+        &s.discovery_keys,
+        &s.discovery_words,
+        &s.discovery_ends,
+        s.discoveries,
+    ) {
         return no_call(s);
     }
-    let d = e.source_address;
-    let place = discovery_table::place_of(
-        &keys,
-        &words,
-        &ends,
-        s.discoveries,
-        d,
-        e.route_request_id,
-    );
+    let mut x = s;
+    let mut discoveries = Discoveries {
+        keys: &mut x.discovery_keys,
+        words: &mut x.discovery_words,
+        ends: &mut x.discovery_ends,
+        count: x.discoveries,
+    };
+    let place = discoveries
+        .seen()
+        .place_of(e.source_address, e.route_request_id);
     if !columns::has_room(place, s.discoveries, 32) {
         return no_call(s);
     }
-    let n = discovery_table::put_at(&mut keys, &mut words, &mut ends, s.discoveries, place, e);
-    let mut x = s;
-    x.discovery_keys = keys;
-    x.discovery_words = words;
-    x.discovery_ends = ends;
-    x.discoveries = n;
+    discoveries.put_at(place, e);
+    x.discoveries = discoveries.count;
     load(x)
 }
 
@@ -133,32 +134,24 @@ fn load_record(s: Routing, store: &mut [u16], destination: Nwk, l: RelayList) ->
     ensures value { result ≡ record_put destination l s store.old }
     ensures store_after { store.new ≡ record_put_store destination l s store.old }
 {
-    let mut keys = s.record_keys;
-    let mut lengths = s.record_lengths;
-    if !record_table::well_formed(&keys, &lengths, s.records) {
+    if !record_table::well_formed(&s.record_keys, &s.record_lengths, s.records) {
         return no_call(s);
     }
-    if !relay_store::agrees(&lengths, store) {
+    if !relay_store::agrees(&s.record_lengths, store) {
         return no_call(s);
     }
-    let place = record_table::place_of(&keys, &lengths, s.records, destination);
+    let mut x = s;
+    let mut records = Records {
+        keys: &mut x.record_keys,
+        lengths: &mut x.record_lengths,
+        count: x.records,
+    };
+    let place = records.seen().place_of(destination);
     if !columns::has_room(place, s.records, 64) {
         return no_call(s);
     }
-    let n = route_record::put_record(
-        &mut keys,
-        &mut lengths,
-        s.records,
-        store,
-        place,
-        destination,
-        l,
-        0,
-    );
-    let mut x = s;
-    x.record_keys = keys;
-    x.record_lengths = lengths;
-    x.records = n;
+    route_record::put_record(&mut records, store, place, destination, l, 0);
+    x.records = records.count;
     load(x)
 }
 

@@ -3,7 +3,7 @@
 use Prim.Native.Nat.{ℕ, ◌≤◌}
 use mathlib.Core.Bool.{Bool, true, false}
 use mathlib.Core.List.{List}
-use mathlib.Core.Path.{◌≡◌, refl, sym, ap, ◌∙◌}
+use mathlib.Core.Path.{◌≡◌, refl, sym, ap, ◌∙◌, subst}
 use lib.Dec.{leb}
 use lib.ListN.{length}
 use Rattle.types.specs.declared.Nwk.{Nwk}
@@ -22,6 +22,10 @@ pub holds-view : (t : RecordTable) (s : List ℕ) (xs : List RouteRecord) → Ho
 holds-view t s xs h =
     let v = together-view t s h.together in
     (v.0 ∙ ap table_for h.records, v.1 ∙ ap store_for h.records)
+
+-- and hold them by any name
+pub held-as : (t u : RecordTable) → t ≡ u → (s : List ℕ) (xs : List RouteRecord) → HoldsRecords t s xs → HoldsRecords u s xs
+held-as t u p s xs h = subst (λ (v : RecordTable). HoldsRecords v s xs) p h
 
 -- so two that hold the same records are the same
 pub holds_same : (t u : RecordTable) (s v : List ℕ) (xs : List RouteRecord) → HoldsRecords t s xs → HoldsRecords u v xs → (t ≡ u) × (s ≡ v)

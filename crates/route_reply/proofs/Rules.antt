@@ -93,9 +93,8 @@ after-key originator hop forward t = considered-key hop forward (route_or origin
 -- and can be put at the originator's place, where there is room
 pub may-put : (s : SearchTables) → WellFormed s → (originator hop : Nwk) (forward : ℕ) (p : Result ℕ ℕ) → p ≡ place_of (take s.routes.count s.routes.keys) originator.0 → room_for p s.routes.count 64 ≡ true
     → (o e : RouteEntry) → o ≡ route_or originator (tables_of s).routes → e ≡ considered hop forward o
-    → route-spec.WellFormed s.routes × (p ≡ place_of (take s.routes.count s.routes.keys) (route_key e)) × (count_with route_key (route_key e) (tables_of s).routes ≤ 64)
+    → (p ≡ place_of (take s.routes.count s.routes.keys) (route_key e)) × (count_with route_key (route_key e) (tables_of s).routes ≤ 64)
 may-put s w originator hop forward p q room o e po pe = (
-  w.routes,
   q ∙ ap (place_of (take s.routes.count s.routes.keys)) (sym key),
   subst (λ (n : ℕ). count_with route_key n (tables_of s).routes ≤ 64) (sym key) (leb-true (count_with route_key originator.0 (tables_of s).routes) 64 (route-room s.routes w.routes originator.0 p q ∙ room)),
 ) where

@@ -22,10 +22,9 @@ use Rattle.standard.specs.Route.{route_key, route_or, considered, considering}
 use Rattle.standard.specs.Tables.{Tables}
 use Rattle.route_table.specs.Table as route
 use Rattle.discovery_table.specs.Table as discovery
-use Rattle.search_tables.specs.Packed.{SearchTables, in_columns, WellFormed, tables_of, Fits, Holds, InKey}
+use Rattle.search_tables.specs.Packed.{SearchTables, WellFormed, tables_of, Fits, Holds, InKey}
 use Rattle.search_tables.proofs.Packing.{search-fits, route-or-key, considered-key, flagged-key, routes-after, discoveries-after, both_hold, holds-itself}
 use Rattle.expiry.proofs.Fit.{expired-fits}
-use Rattle.route_request.specs.declared.RequestResult.{RequestResult}
 use Rattle.route_request.specs.Answer.{RequestStep, refused, answered, by_time, requested_on, requested, Leaves, Room}
 use Rattle.standard.specs.declared.RouteUpdate.{RouteUpdate}
 
@@ -43,13 +42,8 @@ pub leaves-as : (s : SearchTables) (answer : Result (Bool × Option RouteUpdate)
 leaves-as s answer x y q l = subst (λ (z : RequestStep). Leaves s answer z) q l
 
 -- a refusal writes nothing
-pub leaves-refused : (s : SearchTables) → WellFormed s → (why : Refusal) (r : RequestResult) → r ≡ record { answer = Err why; routes = s.routes.count; discoveries = s.discoveries.count }
-    → (x : RequestStep) → x ≡ refused (tables_of s) why
-    → Leaves (in_columns s.routes.keys s.routes.words s.routes.usage r.routes s.discoveries.keys s.discoveries.words s.discoveries.ends r.discoveries) r.answer x
-leaves-refused s w why r e x q =
-    subst
-    (λ (z : RequestResult). Leaves (in_columns s.routes.keys s.routes.words s.routes.usage z.routes s.discoveries.keys s.discoveries.words s.discoveries.ends z.discoveries) z.answer x)
-    (sym e) (leaves-as s (Err why) (refused (tables_of s) why) x (sym q) (record { said = refl; left = holds-itself s w }))
+pub leaves-refused : (s : SearchTables) → WellFormed s → (why : Refusal) (x : RequestStep) → x ≡ refused (tables_of s) why → Leaves s (Err why) x
+leaves-refused s w why x q = leaves-as s (Err why) (refused (tables_of s) why) x (sym q) (record { said = refl; left = holds-itself s w })
 
 -- nothing but the expiry happens: what it leaves fits
 pub leaves-unaccepted : (s : SearchTables) (old t : Tables) → Holds s t → Leaves s (Ok (false, None)) (answered old (record { accepted = false; update = None; tables = t }))

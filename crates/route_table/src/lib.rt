@@ -1,10 +1,9 @@
 // The route table in columns of numbers that are lent and changed in place. Each function is a step on the routes that the columns hold.
 #![tactic(auto)]
 
-ghost use Rattle.std.specs.Prelude.{[], ◌∷◌, map, ◌≡◌, ◌+◌, ◌-◌, ◌*◌, ◌≤◌, ◌<◌, length, take, get_or};
+ghost use Rattle.std.specs.Prelude.{map, ◌≡◌, ◌+◌, ◌-◌, ◌*◌, ◌≤◌, ◌<◌, length, get_or, set, true};
 ghost use mir.Val.{bool_byte};
-ghost use Rattle.flat_map.specs.Seek.{place_of};
-ghost use Rattle.flat_map.specs.Shift.{shift_out};
+ghost use Rattle.flat_map.specs.Shift.{shift_in, shift_out};
 ghost use Rattle.standard.specs.Numbers.{status_number};
 ghost use Rattle.standard.specs.Ordered.{lookup, put, remove, count_with};
 ghost use Rattle.standard.specs.Query.{entry_at};
@@ -14,6 +13,36 @@ ghost use Rattle.route_table.specs.Table.{in_columns, WellFormed, well_formed, r
 
 use standard::{RouteEntry, Status};
 use types::Nwk;
+
+// The table, lent for change: columns that are well formed, and how many routes there are.
+#[derive(Drop)]
+pub struct Routes<'a> {
+    pub keys: &'a mut [u16],
+    pub words: &'a mut [u64],
+    pub usage: &'a mut [u32],
+    pub count: usize,
+    pub ghost formed: { well_formed (in_columns keys.now words.now usage.now count) ≡ true },
+}
+
+// The table with its values alone lent for change: no route is made or removed.
+#[derive(Drop)]
+pub struct RouteValues<'a> {
+    pub keys: &'a [u16],
+    pub words: &'a mut [u64],
+    pub usage: &'a mut [u32],
+    pub count: usize,
+    pub ghost formed: { well_formed (in_columns keys.now words.now usage.now count) ≡ true },
+}
+
+// The table, lent for questions.
+#[derive(Clone, Copy)]
+pub struct RoutesSeen<'a> {
+    pub keys: &'a [u16],
+    pub words: &'a [u64],
+    pub usage: &'a [u32],
+    pub count: usize,
+    pub ghost formed: { well_formed (in_columns keys.now words.now usage.now count) ≡ true },
+}
 
 // Which status a number of two bits names.
 fn status_of(n: u64) -> Status
@@ -100,6 +129,198 @@ fn word_of(e: RouteEntry) -> u64
     )
 }
 
+impl<'a> RoutesSeen<'a> {
+    ghost use Rattle.route_table.specs.Lent.{seen_table, seen_routes, place_in, read_at};
+
+    // Where the route to a destination stands, or would stand.
+    pub fn place_of(&self, destination: Nwk) -> Result<usize, usize>
+        ensures { result ≡ place_in (seen_table self.now) destination.0 }
+    {
+        columns::index_of(self.keys, self.count, destination.0)
+    }
+
+    // The route in a place.
+    pub fn entry_at(&self, i: usize) -> RouteEntry
+        requires { i < 64 }
+        ensures { result ≡ read_at (seen_table self.now) i }
+    {
+        entry(self.keys[i], self.words[i], self.usage[i])
+    }
+
+    // The route to a destination.
+    pub fn find(&self, destination: Nwk) -> Option<RouteEntry>
+        ensures { result ≡ lookup route_key destination.0 (seen_routes self.now) }
+    {
+        match self.place_of(destination) {
+            Ok(i) => {
+                let e = self.entry_at(i);
+                Some(e)
+            }
+            Err(_) => None,
+        }
+    }
+
+    // The route at a place in the order, and nothing from the count on.
+    pub fn at(&self, i: usize) -> Option<RouteEntry>
+        ensures { result ≡ entry_at i (seen_routes self.now) }
+    {
+        if self.count <= i {
+            return None;
+        }
+        let e = self.entry_at(i);
+        Some(e)
+    }
+}
+
+// A word and a usage count written over those in a place.
+fn write_over(words: &mut [u64], usage: &mut [u32], i: usize, word: u64, count: u32)
+    requires { (i < length words.old) × (i < length usage.old) }
+    ensures words { words.new ≡ set words.old i word }
+    ensures usage { usage.new ≡ set usage.old i count }
+{
+    words[i] = word;
+    usage[i] = count;
+}
+
+// A place put in, in each column.
+fn shift_in_all(
+    keys: &mut [u16],
+    words: &mut [u64],
+    usage: &mut [u32],
+    count: &mut usize,
+    i: usize,
+    key: u16,
+    word: u64,
+    used: u32,
+)
+    requires { (i < length keys.old) × (i < length words.old) × (i < length usage.old) × (count.old < 64) }
+    ensures { in_columns keys.new words.new usage.new count.new
+        ≡ in_columns (shift_in i key keys.old) (shift_in i word words.old) (shift_in i used usage.old) (count.old + 1) }
+{
+    columns::shift_in(keys, i, key);
+    columns::shift_in(words, i, word);
+    columns::shift_in(usage, i, used);
+    *count += 1;
+}
+
+// A place taken out, in each column.
+fn shift_out_all(
+    keys: &mut [u16],
+    words: &mut [u64],
+    usage: &mut [u32],
+    count: &mut usize,
+    i: usize,
+)
+    requires { (i < length keys.old) × (i < length words.old) × (i < length usage.old) × (i < count.old) }
+    ensures { in_columns keys.new words.new usage.new count.new
+        ≡ in_columns (shift_out i 0 keys.old) (shift_out i 0 words.old) (shift_out i 0 usage.old) (count.old - 1) }
+{
+    columns::shift_out(keys, i, 0);
+    columns::shift_out(words, i, 0);
+    columns::shift_out(usage, i, 0);
+    *count -= 1;
+}
+
+impl<'a> RouteValues<'a> {
+    ghost use Rattle.route_table.specs.Lent.{value_table, value_routes, seen_table, place_in, ValuesBecome};
+
+    // The table, for questions.
+    pub fn seen(&self) -> RoutesSeen<'_>
+        ensures { seen_table result ≡ value_table self.now }
+    {
+        RoutesSeen {
+            keys: self.keys,
+            words: &*self.words,
+            usage: &*self.usage,
+            count: self.count,
+        }
+    }
+
+    // A route stored over the one of its destination, which stands in place i.
+    pub fn set_at(&mut self, i: usize, e: RouteEntry)
+        requires { Ok i ≡ place_in (value_table self.old) (route_key e) }
+        ensures { ValuesBecome self.old self.new (put route_key e (value_routes self.old)) }
+    {
+        let w = word_of(e);
+        write_over(self.words, self.usage, i, w, e.total_usage_count);
+    }
+}
+
+impl<'a> Routes<'a> {
+    ghost use Rattle.route_table.specs.Lent.{table, routes_of, seen_table, place_in, Becomes, SameColumns, SameKeys};
+
+    // The table, for questions.
+    pub fn seen(&self) -> RoutesSeen<'_>
+        ensures { seen_table result ≡ table self.now }
+    {
+        RoutesSeen {
+            keys: &*self.keys,
+            words: &*self.words,
+            usage: &*self.usage,
+            count: self.count,
+        }
+    }
+
+    // A route stored over the one of its destination, which stands in place i.
+    pub fn set_at(&mut self, i: usize, e: RouteEntry)
+        requires { Ok i ≡ place_in (table self.old) (route_key e) }
+        ensures stored { Becomes self.old self.new (put route_key e (routes_of self.old)) }
+        ensures kept { SameKeys self.old self.new }
+    {
+        let w = word_of(e);
+        write_over(self.words, self.usage, i, w, e.total_usage_count);
+    }
+
+    // A route put in at the place where its destination is missing.
+    pub fn insert_at(&mut self, i: usize, e: RouteEntry)
+        requires { (Err i ≡ place_in (table self.old) (route_key e)) × (self.old.count < 64) }
+        ensures { Becomes self.old self.new (put route_key e (routes_of self.old)) }
+    {
+        let w = word_of(e);
+        shift_in_all(
+            self.keys,
+            self.words,
+            self.usage,
+            &mut self.count,
+            i,
+            e.destination.0,
+            w,
+            e.total_usage_count,
+        );
+    }
+
+    // A route at the place of its destination: over the one that is there, or put in.
+    pub fn put_at(&mut self, place: Result<usize, usize>, e: RouteEntry)
+        requires { (place ≡ place_in (table self.old) (route_key e)) × (count_with route_key (route_key e) (routes_of self.old) ≤ 64) }
+        ensures { Becomes self.old self.new (put route_key e (routes_of self.old)) }
+    {
+        match place {
+            Ok(i) => self.set_at(i, e),
+            Err(i) => self.insert_at(i, e),
+        }
+    }
+
+    // The route in a place taken out, all columns shifted left.
+    pub fn remove_at(&mut self, i: usize)
+        requires { i < self.old.count }
+        ensures same { SameColumns self.old self.new }
+        ensures out { table self.new ≡ in_columns (shift_out i 0 self.old.keys.now) (shift_out i 0 self.old.words.now) (shift_out i 0 self.old.usage.now) (self.old.count - 1) }
+    {
+        shift_out_all(self.keys, self.words, self.usage, &mut self.count, i);
+    }
+
+    // The route to a destination taken out, if there is one.
+    pub fn remove(&mut self, destination: Nwk)
+        ensures { Becomes self.old self.new (remove route_key destination.0 (routes_of self.old)) }
+    {
+        let place = self.seen().place_of(destination);
+        match place {
+            Ok(i) => self.remove_at(i),
+            Err(_) => {}
+        }
+    }
+}
+
 // Whether columns are a well-formed table.
 pub fn well_formed(keys: &[u16], words: &[u64], usage: &[u32], count: usize) -> bool
     ensures { result ≡ well_formed (in_columns keys.now words.now usage.now count) }
@@ -124,155 +345,12 @@ pub fn well_formed(keys: &[u16], words: &[u64], usage: &[u32], count: usize) -> 
     up & no_keys & no_words & no_usage & small
 }
 
-// Where the route to a destination stands, or would stand.
-pub fn place_of(
-    keys: &[u16],
-    words: &[u64],
-    usage: &[u32],
-    count: usize,
-    destination: Nwk,
-) -> Result<usize, usize>
-    requires { WellFormed (in_columns keys.now words.now usage.now count) }
-    ensures { result ≡ place_of (take count keys.now) destination.0 }
-{
-    columns::index_of(keys, count, destination.0)
-}
-
-// The route in a place.
+// The route in a place of columns as they are, which need not be well formed: it is printed so.
 pub fn entry_at(keys: &[u16], words: &[u64], usage: &[u32], i: usize) -> RouteEntry
     requires { (i < length keys.now) × (i < length words.now) × (i < length usage.now) }
     ensures { result ≡ route_in (get_or keys.now i 0) (get_or words.now i 0) (get_or usage.now i 0) }
 {
     entry(keys[i], words[i], usage[i])
-}
-
-// The route to a destination.
-pub fn find(
-    keys: &[u16],
-    words: &[u64],
-    usage: &[u32],
-    count: usize,
-    destination: Nwk,
-) -> Option<RouteEntry>
-    requires { WellFormed (in_columns keys.now words.now usage.now count) }
-    ensures { result ≡ lookup route_key destination.0 (rows_of (in_columns keys.now words.now usage.now count)) }
-{
-    let place = place_of(keys, words, usage, count, destination);
-    match place {
-        Ok(i) => {
-            let e = entry_at(keys, words, usage, i);
-            Some(e)
-        }
-        Err(_) => None,
-    }
-}
-
-// The route at a place in the order, and nothing from the count on.
-pub fn at(keys: &[u16], words: &[u64], usage: &[u32], count: usize, i: usize) -> Option<RouteEntry>
-    requires { WellFormed (in_columns keys.now words.now usage.now count) }
-    ensures { result ≡ entry_at i (rows_of (in_columns keys.now words.now usage.now count)) }
-{
-    if count <= i {
-        return None;
-    }
-    let e = entry_at(keys, words, usage, i);
-    Some(e)
-}
-
-// A route stored over the one of its destination, which stands in place i.
-pub fn set_at(
-    keys: &[u16],
-    words: &mut [u64],
-    usage: &mut [u32],
-    count: usize,
-    i: usize,
-    e: RouteEntry,
-)
-    requires { WellFormed (in_columns keys.now words.old usage.old count) × (Ok i ≡ place_of (take count keys.now) (route_key e)) }
-    ensures { Holds (in_columns keys.now words.new usage.new count)
-        (put route_key e (rows_of (in_columns keys.now words.old usage.old count))) }
-{
-    let w = word_of(e);
-    words[i] = w;
-    usage[i] = e.total_usage_count;
-}
-
-// A route put in at the place where its destination is missing.
-pub fn insert_at(
-    keys: &mut [u16],
-    words: &mut [u64],
-    usage: &mut [u32],
-    count: usize,
-    i: usize,
-    e: RouteEntry,
-)
-    requires { WellFormed (in_columns keys.old words.old usage.old count) × (Err i ≡ place_of (take count keys.old) (route_key e)) × (count < 64) }
-    ensures { Holds (in_columns keys.new words.new usage.new (count + 1))
-        (put route_key e (rows_of (in_columns keys.old words.old usage.old count))) }
-{
-    let w = word_of(e);
-    columns::shift_in(keys, i, e.destination.0);
-    columns::shift_in(words, i, w);
-    columns::shift_in(usage, i, e.total_usage_count);
-}
-
-// A route at the place of its destination: over the one that is there, or put in. How many routes there are after it.
-pub fn put_at(
-    keys: &mut [u16],
-    words: &mut [u64],
-    usage: &mut [u32],
-    count: usize,
-    place: Result<usize, usize>,
-    e: RouteEntry,
-) -> usize
-    requires { WellFormed (in_columns keys.old words.old usage.old count) × (place ≡ place_of (take count keys.old) (route_key e)) × (count_with route_key (route_key e) (rows_of (in_columns keys.old words.old usage.old count)) ≤ 64) }
-    ensures { Holds (in_columns keys.new words.new usage.new result)
-        (put route_key e (rows_of (in_columns keys.old words.old usage.old count))) }
-{
-    match place {
-        Ok(i) => {
-            set_at(keys, words, usage, count, i, e);
-            count
-        }
-        Err(i) => {
-            insert_at(keys, words, usage, count, i, e);
-            count + 1
-        }
-    }
-}
-
-// The route in a place taken out, all columns shifted left.
-pub fn remove_at(keys: &mut [u16], words: &mut [u64], usage: &mut [u32], i: usize)
-    requires { (i < length keys.old) × (i < length words.old) × (i < length usage.old) }
-    ensures { (keys.new ≡ shift_out i 0 keys.old)
-        × (words.new ≡ shift_out i 0 words.old)
-        × (usage.new ≡ shift_out i 0 usage.old) }
-{
-    columns::shift_out(keys, i, 0);
-    columns::shift_out(words, i, 0);
-    columns::shift_out(usage, i, 0);
-}
-
-// The route to a destination taken out, if there is one. How many routes there are after it.
-pub fn remove(
-    keys: &mut [u16],
-    words: &mut [u64],
-    usage: &mut [u32],
-    count: usize,
-    destination: Nwk,
-) -> usize
-    requires { WellFormed (in_columns keys.old words.old usage.old count) }
-    ensures { Holds (in_columns keys.new words.new usage.new result)
-        (remove route_key destination.0 (rows_of (in_columns keys.old words.old usage.old count))) }
-{
-    let place = place_of(keys, words, usage, count, destination);
-    match place {
-        Ok(i) => {
-            remove_at(keys, words, usage, i);
-            count - 1
-        }
-        Err(_) => count,
-    }
 }
 
 // The recent activity of an Active route, one less.
@@ -302,7 +380,7 @@ fn unlinked_entry(e: RouteEntry, hop: Nwk) -> RouteEntry
     route_entry::with_status(e, Status::Inactive)
 }
 
-// The recent activity of every Active route goes down by one.
+// The recent activity of every Active route goes down by one. In columns, as `invalidate_via` is: C lends the words alone of these two for change.
 pub fn decay_activity(keys: &[u16], words: &mut [u64], usage: &[u32], count: usize)
     requires { WellFormed (in_columns keys.now words.old usage.now count) }
     ensures { Holds (in_columns keys.now words.new usage.now count)

@@ -1,4 +1,4 @@
-// The routing state by value, and every call on it. Each call tests the state, lends its columns to the rule, and puts them back.
+// The routing state by value, and every call on it. Each call tests the state and lends the tables of a copy to the rule, which changes them there.
 #![tactic(auto)]
 
 mod queries;
@@ -12,7 +12,9 @@ ghost use Rattle.record_table.specs.Table as record_of;
 ghost use Rattle.routing.specs.State.{well_formed, formed_in, fresh};
 ghost use Rattle.routing.specs.Search.{accept_route_reply, accept_route_request, begin_discovery, begin_many_to_one_advertisement};
 
+use discovery_table::{Discoveries, DiscoveryValues};
 use route_calls::Checked;
+use route_table::Routes;
 use standard::{ManyToOne, RecordEntry, RelayList, RouteReplyDisposition, RouteUpdate};
 use types::{Nwk, Refusal};
 
@@ -187,41 +189,28 @@ impl Routing {
     ) -> RouteReplyOutcome
         ensures { result ≡ accept_route_reply self own originator request_id responder sender updated_path_cost }
     {
-        let mut route_keys = self.route_keys;
-        let mut route_words = self.route_words;
-        let mut route_usage = self.route_usage;
-        let discovery_keys = self.discovery_keys;
-        let mut discovery_words = self.discovery_words;
-        let mut discovery_ends = self.discovery_ends;
-        let record_keys = self.record_keys;
-        let record_lengths = self.record_lengths;
-        if !columns_formed(
-            &route_keys,
-            &route_words,
-            &route_usage,
-            self.routes,
-            &discovery_keys,
-            &discovery_words,
-            &discovery_ends,
-            self.discoveries,
-            &record_keys,
-            &record_lengths,
-            self.records,
-        ) {
+        if !self.well_formed() {
             return RouteReplyOutcome {
                 answer: Err(Refusal::StateIllFormed),
                 state: self,
             };
         }
-        let x = route_reply::reply(
-            &mut route_keys,
-            &mut route_words,
-            &mut route_usage,
-            self.routes,
-            &discovery_keys,
-            &mut discovery_words,
-            &mut discovery_ends,
-            self.discoveries,
+        let mut state = self;
+        let mut routes = Routes {
+            keys: &mut state.route_keys,
+            words: &mut state.route_words,
+            usage: &mut state.route_usage,
+            count: state.routes,
+        };
+        let mut discoveries = DiscoveryValues {
+            keys: &self.discovery_keys,
+            words: &mut state.discovery_words,
+            ends: &mut state.discovery_ends,
+            count: state.discoveries,
+        };
+        let answer = route_reply::reply(
+            &mut routes,
+            &mut discoveries,
             own,
             originator,
             request_id,
@@ -229,26 +218,8 @@ impl Routing {
             sender,
             updated_path_cost,
         );
-        let answer = x.answer;
-        RouteReplyOutcome {
-            answer,
-            state: Routing {
-                mtorr_route_errors: self.mtorr_route_errors,
-                mtorr_delivery_failures: self.mtorr_delivery_failures,
-                request_sequence_number: self.request_sequence_number,
-                route_keys,
-                route_words,
-                route_usage,
-                routes: x.routes,
-                discovery_keys,
-                discovery_words,
-                discovery_ends,
-                discoveries: self.discoveries,
-                record_keys,
-                record_lengths,
-                records: self.records,
-            },
-        }
+        state.routes = routes.count;
+        RouteReplyOutcome { answer, state }
     }
 
     // A route request heard from `sender`: whether it is accepted, and what it did to the originator's route.
@@ -265,41 +236,28 @@ impl Routing {
     ) -> RouteRequestOutcome
         ensures { result ≡ accept_route_request self originator request_id destination sender updated_path_cost many_to_one now route_discovery_time }
     {
-        let mut route_keys = self.route_keys;
-        let mut route_words = self.route_words;
-        let mut route_usage = self.route_usage;
-        let mut discovery_keys = self.discovery_keys;
-        let mut discovery_words = self.discovery_words;
-        let mut discovery_ends = self.discovery_ends;
-        let record_keys = self.record_keys;
-        let record_lengths = self.record_lengths;
-        if !columns_formed(
-            &route_keys,
-            &route_words,
-            &route_usage,
-            self.routes,
-            &discovery_keys,
-            &discovery_words,
-            &discovery_ends,
-            self.discoveries,
-            &record_keys,
-            &record_lengths,
-            self.records,
-        ) {
+        if !self.well_formed() {
             return RouteRequestOutcome {
                 answer: Err(Refusal::StateIllFormed),
                 state: self,
             };
         }
-        let x = route_request::request(
-            &mut route_keys,
-            &mut route_words,
-            &mut route_usage,
-            self.routes,
-            &mut discovery_keys,
-            &mut discovery_words,
-            &mut discovery_ends,
-            self.discoveries,
+        let mut state = self;
+        let mut routes = Routes {
+            keys: &mut state.route_keys,
+            words: &mut state.route_words,
+            usage: &mut state.route_usage,
+            count: state.routes,
+        };
+        let mut discoveries = Discoveries {
+            keys: &mut state.discovery_keys,
+            words: &mut state.discovery_words,
+            ends: &mut state.discovery_ends,
+            count: state.discoveries,
+        };
+        let answer = route_request::request(
+            &mut routes,
+            &mut discoveries,
             originator,
             request_id,
             destination,
@@ -309,26 +267,11 @@ impl Routing {
             now,
             route_discovery_time,
         );
-        let answer = x.answer;
-        RouteRequestOutcome {
-            answer,
-            state: Routing {
-                mtorr_route_errors: self.mtorr_route_errors,
-                mtorr_delivery_failures: self.mtorr_delivery_failures,
-                request_sequence_number: self.request_sequence_number,
-                route_keys,
-                route_words,
-                route_usage,
-                routes: x.routes,
-                discovery_keys,
-                discovery_words,
-                discovery_ends,
-                discoveries: x.discoveries,
-                record_keys,
-                record_lengths,
-                records: self.records,
-            },
-        }
+        let n = routes.count;
+        let m = discoveries.count;
+        state.routes = n;
+        state.discoveries = m;
+        RouteRequestOutcome { answer, state }
     }
 
     // A search of our own: the route becomes DiscoveryUnderway; the answer is the request id.
@@ -341,74 +284,47 @@ impl Routing {
     ) -> BeginOutcome
         ensures { result ≡ begin_discovery self own destination now route_discovery_time }
     {
-        let mut route_keys = self.route_keys;
-        let mut route_words = self.route_words;
-        let mut route_usage = self.route_usage;
-        let mut discovery_keys = self.discovery_keys;
-        let mut discovery_words = self.discovery_words;
-        let mut discovery_ends = self.discovery_ends;
-        let record_keys = self.record_keys;
-        let record_lengths = self.record_lengths;
-        if !columns_formed(
-            &route_keys,
-            &route_words,
-            &route_usage,
-            self.routes,
-            &discovery_keys,
-            &discovery_words,
-            &discovery_ends,
-            self.discoveries,
-            &record_keys,
-            &record_lengths,
-            self.records,
-        ) {
+        if !self.well_formed() {
             return BeginOutcome {
                 answer: Err(Refusal::StateIllFormed),
                 state: self,
             };
         }
         let id = types::next_id(self.request_sequence_number);
-        let x = route_begin::begin(
-            &mut route_keys,
-            &mut route_words,
-            &mut route_usage,
-            self.routes,
-            &mut discovery_keys,
-            &mut discovery_words,
-            &mut discovery_ends,
-            self.discoveries,
+        let mut state = self;
+        let mut routes = Routes {
+            keys: &mut state.route_keys,
+            words: &mut state.route_words,
+            usage: &mut state.route_usage,
+            count: state.routes,
+        };
+        let mut discoveries = Discoveries {
+            keys: &mut state.discovery_keys,
+            words: &mut state.discovery_words,
+            ends: &mut state.discovery_ends,
+            count: state.discoveries,
+        };
+        let answer = route_begin::begin(
+            &mut routes,
+            &mut discoveries,
             own,
             id,
             destination,
             now,
             route_discovery_time,
         );
-        let answer = x.answer;
+        let n = routes.count;
+        let m = discoveries.count;
+        state.routes = n;
+        state.discoveries = m;
         let Ok(_) = answer else {
             return BeginOutcome {
                 answer,
                 state: self,
             };
         };
-        BeginOutcome {
-            answer,
-            state: Routing {
-                mtorr_route_errors: self.mtorr_route_errors,
-                mtorr_delivery_failures: self.mtorr_delivery_failures,
-                request_sequence_number: id,
-                route_keys,
-                route_words,
-                route_usage,
-                routes: x.routes,
-                discovery_keys,
-                discovery_words,
-                discovery_ends,
-                discoveries: x.discoveries,
-                record_keys,
-                record_lengths,
-                records: self.records,
-            },
-        }
+        state.request_sequence_number = id;
+        BeginOutcome { answer, state }
     }
 
     // A many-to-one advertisement: the entry that stops its echoes; the answer is the request id.
@@ -420,72 +336,45 @@ impl Routing {
     ) -> BeginOutcome
         ensures { result ≡ begin_many_to_one_advertisement self own now route_discovery_time }
     {
-        let mut route_keys = self.route_keys;
-        let mut route_words = self.route_words;
-        let mut route_usage = self.route_usage;
-        let mut discovery_keys = self.discovery_keys;
-        let mut discovery_words = self.discovery_words;
-        let mut discovery_ends = self.discovery_ends;
-        let record_keys = self.record_keys;
-        let record_lengths = self.record_lengths;
-        if !columns_formed(
-            &route_keys,
-            &route_words,
-            &route_usage,
-            self.routes,
-            &discovery_keys,
-            &discovery_words,
-            &discovery_ends,
-            self.discoveries,
-            &record_keys,
-            &record_lengths,
-            self.records,
-        ) {
+        if !self.well_formed() {
             return BeginOutcome {
                 answer: Err(Refusal::StateIllFormed),
                 state: self,
             };
         }
         let id = types::next_id(self.request_sequence_number);
-        let x = route_begin::advertise(
-            &mut route_keys,
-            &mut route_words,
-            &mut route_usage,
-            self.routes,
-            &mut discovery_keys,
-            &mut discovery_words,
-            &mut discovery_ends,
-            self.discoveries,
+        let mut state = self;
+        let mut routes = Routes {
+            keys: &mut state.route_keys,
+            words: &mut state.route_words,
+            usage: &mut state.route_usage,
+            count: state.routes,
+        };
+        let mut discoveries = Discoveries {
+            keys: &mut state.discovery_keys,
+            words: &mut state.discovery_words,
+            ends: &mut state.discovery_ends,
+            count: state.discoveries,
+        };
+        let answer = route_begin::advertise(
+            &mut routes,
+            &mut discoveries,
             own,
             id,
             now,
             route_discovery_time,
         );
-        let answer = x.answer;
+        let n = routes.count;
+        let m = discoveries.count;
+        state.routes = n;
+        state.discoveries = m;
         let Ok(_) = answer else {
             return BeginOutcome {
                 answer,
                 state: self,
             };
         };
-        BeginOutcome {
-            answer,
-            state: Routing {
-                mtorr_route_errors: self.mtorr_route_errors,
-                mtorr_delivery_failures: self.mtorr_delivery_failures,
-                request_sequence_number: id,
-                route_keys,
-                route_words,
-                route_usage,
-                routes: x.routes,
-                discovery_keys,
-                discovery_words,
-                discovery_ends,
-                discoveries: x.discoveries,
-                record_keys,
-                record_lengths,
-                records: self.records,
-            },
-        }
+        state.request_sequence_number = id;
+        BeginOutcome { answer, state }
     }
 }

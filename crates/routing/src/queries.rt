@@ -1,17 +1,47 @@
 // The calls that ask, and the two trigger counters.
 ghost use Rattle.std.specs.Prelude.{◌≡◌};
-ghost use Rattle.routing.specs.State.{WellFormed};
+ghost use Rattle.route_table.specs.Lent as route;
+ghost use Rattle.discovery_table.specs.Lent as discovery;
+ghost use Rattle.routing.specs.State.{WellFormed, route_table, discovery_table};
 ghost use Rattle.routing.specs.Routes.{routes_in};
 ghost use Rattle.route_calls.specs.Answer.{hop_answer};
 ghost use Rattle.standard.specs.Calls.{hop_at};
 ghost use Rattle.routing.specs.Queries.{route_status, discovery_deadline, route_count, discovery_count, route_at, discovery_at, check_tables, next_hop_of, note_route_error, note_delivery_failure, reset_mtorr_triggers};
 
 use crate::{DoneOutcome, Routing, ToldOutcome};
+use discovery_table::DiscoveriesSeen;
 use route_calls::Checked;
+use route_table::RoutesSeen;
 use standard::{DiscoveryEntry, RouteEntry, Status};
 use types::{Nwk, Refusal};
 
 impl Routing {
+    // The routes of a state, for questions.
+    pub fn routes_seen(&self) -> RoutesSeen<'_>
+        requires { WellFormed self.now }
+        ensures { route.seen_table result ≡ route_table self.now }
+    {
+        RoutesSeen {
+            keys: &self.route_keys,
+            words: &self.route_words,
+            usage: &self.route_usage,
+            count: self.routes,
+        }
+    }
+
+    // The discoveries of a state, for questions.
+    pub fn discoveries_seen(&self) -> DiscoveriesSeen<'_>
+        requires { WellFormed self.now }
+        ensures { discovery.seen_table result ≡ discovery_table self.now }
+    {
+        DiscoveriesSeen {
+            keys: &self.discovery_keys,
+            words: &self.discovery_words,
+            ends: &self.discovery_ends,
+            count: self.discoveries,
+        }
+    }
+
     // How the route to a destination stands.
     pub fn route_status(self, destination: Nwk) -> Result<Option<Status>, Refusal>
         ensures { result ≡ route_status self destination }
@@ -19,16 +49,7 @@ impl Routing {
         if !self.well_formed() {
             return Err(Refusal::StateIllFormed);
         }
-        let route_keys = self.route_keys;
-        let route_words = self.route_words;
-        let route_usage = self.route_usage;
-        let answer = route_calls::route_status(
-            &route_keys,
-            &route_words,
-            &route_usage,
-            self.routes,
-            destination,
-        );
+        let answer = route_calls::route_status(&self.routes_seen(), destination);
         Ok(answer)
     }
 
@@ -39,17 +60,7 @@ impl Routing {
         if !self.well_formed() {
             return Err(Refusal::StateIllFormed);
         }
-        let discovery_keys = self.discovery_keys;
-        let discovery_words = self.discovery_words;
-        let discovery_ends = self.discovery_ends;
-        let answer = discovery_table::discovery_deadline(
-            &discovery_keys,
-            &discovery_words,
-            &discovery_ends,
-            self.discoveries,
-            destination,
-            now,
-        );
+        let answer = self.discoveries_seen().discovery_deadline(destination, now);
         Ok(answer)
     }
 
@@ -80,10 +91,7 @@ impl Routing {
         if !self.well_formed() {
             return Err(Refusal::StateIllFormed);
         }
-        let route_keys = self.route_keys;
-        let route_words = self.route_words;
-        let route_usage = self.route_usage;
-        let answer = route_table::at(&route_keys, &route_words, &route_usage, self.routes, place);
+        let answer = self.routes_seen().at(place);
         Ok(answer)
     }
 
@@ -94,16 +102,7 @@ impl Routing {
         if !self.well_formed() {
             return Err(Refusal::StateIllFormed);
         }
-        let discovery_keys = self.discovery_keys;
-        let discovery_words = self.discovery_words;
-        let discovery_ends = self.discovery_ends;
-        let answer = discovery_table::at(
-            &discovery_keys,
-            &discovery_words,
-            &discovery_ends,
-            self.discoveries,
-            place,
-        );
+        let answer = self.discoveries_seen().at(place);
         Ok(answer)
     }
 
@@ -114,22 +113,7 @@ impl Routing {
         if !self.well_formed() {
             return Err(Refusal::StateIllFormed);
         }
-        let route_keys = self.route_keys;
-        let route_words = self.route_words;
-        let route_usage = self.route_usage;
-        let discovery_keys = self.discovery_keys;
-        let discovery_words = self.discovery_words;
-        let discovery_ends = self.discovery_ends;
-        let answer = route_calls::check(
-            &route_keys,
-            &route_words,
-            &route_usage,
-            self.routes,
-            &discovery_keys,
-            &discovery_words,
-            &discovery_ends,
-            self.discoveries,
-        );
+        let answer = route_calls::check(&self.routes_seen(), &self.discoveries_seen());
         Ok(answer)
     }
 
@@ -138,16 +122,7 @@ impl Routing {
         requires { WellFormed self }
         ensures { result ≡ hop_answer (hop_at destination.0 (routes_in self)) }
     {
-        let route_keys = self.route_keys;
-        let route_words = self.route_words;
-        let route_usage = self.route_usage;
-        route_calls::next_hop(
-            &route_keys,
-            &route_words,
-            &route_usage,
-            self.routes,
-            destination,
-        )
+        route_calls::next_hop(&self.routes_seen(), destination)
     }
 
     // The next hop to a destination by its Active route. A hop that is not known is refusal 6.

@@ -1,11 +1,14 @@
 // The calls on route records, whose relays are in a lent store.
 ghost use Rattle.std.specs.Prelude.{◌≡◌};
 ghost use Rattle.relay_store.specs.Store.{agrees, Agrees};
-ghost use Rattle.route_table.specs.Table as route;
+ghost use Rattle.record_table.specs.Lent.{seen_table};
+ghost use Rattle.route_table.specs.Lent.{seen_routes};
 ghost use Rattle.routing.specs.State.{WellFormed, record_table};
 ghost use Rattle.routing.specs.Records.{refused_record, refused_way, store_route_record, store_after_record, remove_route_record, store_after_removal, hop_to, answer_in, answer_by, route_to_core, route_to, route_to_default, record_count, refused_record_at, record_at};
 
 use crate::{RecordAtOutcome, RecordOutcome, RouteToAnswer, RouteToOutcome, Routing, ToldOutcome};
+use record_table::{Records, RecordsSeen};
+use route_table::RoutesSeen;
 use standard::{RecordEntry, RecordRoute, RelayList};
 use types::{Nwk, Refusal};
 
@@ -42,35 +45,37 @@ fn refuse_record_at(refusal: Refusal) -> RecordAtOutcome
     }
 }
 
-// What a record's word on the way comes to, by routes in columns that are lent: where it names none, the Active route decides.
+// What a record's word on the way comes to, by routes that are lent: where it names none, the Active route decides.
 fn answer_on(
-    route_keys: &[u16],
-    route_words: &[u64],
-    route_usage: &[u32],
-    routes: usize,
+    routes: &RoutesSeen,
     destination: Nwk,
     way: Option<RecordRoute>,
 ) -> Result<RouteToAnswer, Refusal>
-    requires { route.WellFormed (route.in_columns route_keys.now route_words.now route_usage.now routes) }
-    ensures { result ≡ answer_in (route.rows_of (route.in_columns route_keys.now route_words.now route_usage.now routes)) destination way }
+    ensures { result ≡ answer_in (seen_routes routes.now) destination way }
 {
     match way {
         Some(RecordRoute::Direct) => Ok(RouteToAnswer::NextHop(destination)),
         Some(RecordRoute::SourceRoute) => Ok(RouteToAnswer::SourceRoute),
         None => {
-            let hop = route_calls::next_hop(
-                route_keys,
-                route_words,
-                route_usage,
-                routes,
-                destination,
-            );
+            let hop = route_calls::next_hop(routes, destination);
             hop_to(hop)
         }
     }
 }
 
 impl Routing {
+    // The records of a state, for questions.
+    pub fn records_seen(&self) -> RecordsSeen<'_>
+        requires { WellFormed self.now }
+        ensures { seen_table result ≡ record_table self.now }
+    {
+        RecordsSeen {
+            keys: &self.record_keys,
+            lengths: &self.record_lengths,
+            count: self.records,
+        }
+    }
+
     // Whether a store agrees with the record table, which is well formed.
     pub fn agrees(self, store: &[u16]) -> bool
         requires { WellFormed self }
@@ -100,63 +105,24 @@ impl Routing {
         ensures value { result ≡ store_route_record self source relays store.old }
         ensures store_after { store.new ≡ store_after_record self source relays store.old }
     {
-        let route_keys = self.route_keys;
-        let route_words = self.route_words;
-        let route_usage = self.route_usage;
-        let discovery_keys = self.discovery_keys;
-        let discovery_words = self.discovery_words;
-        let discovery_ends = self.discovery_ends;
-        let mut record_keys = self.record_keys;
-        let mut record_lengths = self.record_lengths;
-        if !crate::columns_formed(
-            &route_keys,
-            &route_words,
-            &route_usage,
-            self.routes,
-            &discovery_keys,
-            &discovery_words,
-            &discovery_ends,
-            self.discoveries,
-            &record_keys,
-            &record_lengths,
-            self.records,
-        ) {
+        if !self.well_formed() {
             return self.refuse_record(Refusal::StateIllFormed);
         }
-        if !relay_store::agrees(&record_lengths, store) {
+        if !self.agrees(store) {
             return self.refuse_record(Refusal::StoreDisagrees);
         }
         if 32 < relays.count {
             return self.refuse_record(Refusal::ListTooLong);
         }
-        let x = route_record::store_record(
-            &mut record_keys,
-            &mut record_lengths,
-            self.records,
-            store,
-            source,
-            relays,
-        );
-        let answer = x.answer;
-        RecordOutcome {
-            answer,
-            state: Routing {
-                mtorr_route_errors: self.mtorr_route_errors,
-                mtorr_delivery_failures: self.mtorr_delivery_failures,
-                request_sequence_number: self.request_sequence_number,
-                route_keys,
-                route_words,
-                route_usage,
-                routes: self.routes,
-                discovery_keys,
-                discovery_words,
-                discovery_ends,
-                discoveries: self.discoveries,
-                record_keys,
-                record_lengths,
-                records: x.records,
-            },
-        }
+        let mut state = self;
+        let mut records = Records {
+            keys: &mut state.record_keys,
+            lengths: &mut state.record_lengths,
+            count: state.records,
+        };
+        let answer = route_record::store_record(&mut records, store, source, relays);
+        state.records = records.count;
+        RecordOutcome { answer, state }
     }
 
     // The record of a destination is removed; whether there was one.
@@ -170,21 +136,16 @@ impl Routing {
         if !self.agrees(store) {
             return self.refuse_told(Refusal::StoreDisagrees);
         }
-        let mut record_keys = self.record_keys;
-        let mut record_lengths = self.record_lengths;
-        let x = route_record::remove_record(
-            &mut record_keys,
-            &mut record_lengths,
-            self.records,
-            store,
-            destination,
-        );
         let mut state = self;
-        state.record_keys = record_keys;
-        state.record_lengths = record_lengths;
-        state.records = x.records;
+        let mut records = Records {
+            keys: &mut state.record_keys,
+            lengths: &mut state.record_lengths,
+            count: state.records,
+        };
+        let removed = route_record::remove_record(&mut records, store, destination);
+        state.records = records.count;
         ToldOutcome {
-            answer: Ok(x.removed),
+            answer: Ok(removed),
             state,
         }
     }
@@ -214,16 +175,7 @@ impl Routing {
         requires { WellFormed self × Agrees (record_table self) store.now }
         ensures { result ≡ route_to_core self destination max_source_route store.now }
     {
-        let record_keys = self.record_keys;
-        let record_lengths = self.record_lengths;
-        let x = route_record::way_to(
-            &record_keys,
-            &record_lengths,
-            self.records,
-            store,
-            destination,
-            max_source_route,
-        );
+        let x = route_record::way_to(&self.records_seen(), store, destination, max_source_route);
         let way = x.route;
         let relays = x.relays;
         let answer = self.answer_by(destination, way);
@@ -234,50 +186,16 @@ impl Routing {
     pub fn route_to(self, store: &[u16], destination: Nwk, max_source_route: u8) -> RouteToOutcome
         ensures { result ≡ route_to self destination max_source_route store.now }
     {
-        let route_keys = self.route_keys;
-        let route_words = self.route_words;
-        let route_usage = self.route_usage;
-        let discovery_keys = self.discovery_keys;
-        let discovery_words = self.discovery_words;
-        let discovery_ends = self.discovery_ends;
-        let record_keys = self.record_keys;
-        let record_lengths = self.record_lengths;
-        if !crate::columns_formed(
-            &route_keys,
-            &route_words,
-            &route_usage,
-            self.routes,
-            &discovery_keys,
-            &discovery_words,
-            &discovery_ends,
-            self.discoveries,
-            &record_keys,
-            &record_lengths,
-            self.records,
-        ) {
+        if !self.well_formed() {
             return refuse_way(Refusal::StateIllFormed);
         }
-        if !relay_store::agrees(&record_lengths, store) {
+        if !self.agrees(store) {
             return refuse_way(Refusal::StoreDisagrees);
         }
-        let x = route_record::way_to(
-            &record_keys,
-            &record_lengths,
-            self.records,
-            store,
-            destination,
-            max_source_route,
-        );
+        let x = route_record::way_to(&self.records_seen(), store, destination, max_source_route);
         let way = x.route;
         let relays = x.relays;
-        let answer = answer_on(
-            &route_keys,
-            &route_words,
-            &route_usage,
-            self.routes,
-            destination,
-            way,
-        );
+        let answer = answer_on(&self.routes_seen(), destination, way);
         RouteToOutcome { answer, relays }
     }
 
@@ -308,15 +226,7 @@ impl Routing {
         if !self.agrees(store) {
             return refuse_record_at(Refusal::StoreDisagrees);
         }
-        let record_keys = self.record_keys;
-        let record_lengths = self.record_lengths;
-        let row = route_record::record_at(
-            &record_keys,
-            &record_lengths,
-            self.records,
-            store,
-            place,
-        );
+        let row = route_record::record_at(&self.records_seen(), store, place);
         RecordAtOutcome {
             answer: Ok(row.entry),
             relays: row.relays,

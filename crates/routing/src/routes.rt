@@ -3,6 +3,7 @@ ghost use Rattle.std.specs.Prelude.{◌≡◌};
 ghost use Rattle.routing.specs.Routes.{refused_done, refused_told, mark_discovery_failed, record_usage, note_source_routed_frame, decay_activity, invalidate_via, restore_route, note_relayed_discovery, remove_route};
 
 use crate::{DoneOutcome, Routing, ToldOutcome};
+use route_table::{RouteValues, Routes};
 use types::{Nwk, Refusal};
 
 impl Routing {
@@ -33,19 +34,14 @@ impl Routing {
         if !self.well_formed() {
             return self.refuse_done();
         }
-        let route_keys = self.route_keys;
-        let mut route_words = self.route_words;
-        let mut route_usage = self.route_usage;
-        route_calls::mark_discovery_failed(
-            &route_keys,
-            &mut route_words,
-            &mut route_usage,
-            self.routes,
-            destination,
-        );
         let mut state = self;
-        state.route_words = route_words;
-        state.route_usage = route_usage;
+        let mut routes = RouteValues {
+            keys: &self.route_keys,
+            words: &mut state.route_words,
+            usage: &mut state.route_usage,
+            count: state.routes,
+        };
+        route_calls::mark_discovery_failed(&mut routes, destination);
         DoneOutcome {
             answer: Ok(()),
             state,
@@ -59,19 +55,14 @@ impl Routing {
         if !self.well_formed() {
             return self.refuse_done();
         }
-        let route_keys = self.route_keys;
-        let mut route_words = self.route_words;
-        let mut route_usage = self.route_usage;
-        route_calls::record_usage(
-            &route_keys,
-            &mut route_words,
-            &mut route_usage,
-            self.routes,
-            destination,
-        );
         let mut state = self;
-        state.route_words = route_words;
-        state.route_usage = route_usage;
+        let mut routes = RouteValues {
+            keys: &self.route_keys,
+            words: &mut state.route_words,
+            usage: &mut state.route_usage,
+            count: state.routes,
+        };
+        route_calls::record_usage(&mut routes, destination);
         DoneOutcome {
             answer: Ok(()),
             state,
@@ -85,19 +76,14 @@ impl Routing {
         if !self.well_formed() {
             return self.refuse_done();
         }
-        let route_keys = self.route_keys;
-        let mut route_words = self.route_words;
-        let mut route_usage = self.route_usage;
-        route_calls::note_source_routed_frame(
-            &route_keys,
-            &mut route_words,
-            &mut route_usage,
-            self.routes,
-            concentrator,
-        );
         let mut state = self;
-        state.route_words = route_words;
-        state.route_usage = route_usage;
+        let mut routes = RouteValues {
+            keys: &self.route_keys,
+            words: &mut state.route_words,
+            usage: &mut state.route_usage,
+            count: state.routes,
+        };
+        route_calls::note_source_routed_frame(&mut routes, concentrator);
         DoneOutcome {
             answer: Ok(()),
             state,
@@ -155,24 +141,15 @@ impl Routing {
         if !self.well_formed() {
             return self.refuse_done();
         }
-        let mut route_keys = self.route_keys;
-        let mut route_words = self.route_words;
-        let mut route_usage = self.route_usage;
-        let x = route_calls::restore_route(
-            &mut route_keys,
-            &mut route_words,
-            &mut route_usage,
-            self.routes,
-            destination,
-            next_hop,
-            path_cost,
-        );
-        let answer = x.answer;
         let mut state = self;
-        state.route_keys = route_keys;
-        state.route_words = route_words;
-        state.route_usage = route_usage;
-        state.routes = x.routes;
+        let mut routes = Routes {
+            keys: &mut state.route_keys,
+            words: &mut state.route_words,
+            usage: &mut state.route_usage,
+            count: state.routes,
+        };
+        let answer = route_calls::restore_route(&mut routes, destination, next_hop, path_cost);
+        state.routes = routes.count;
         DoneOutcome { answer, state }
     }
 
@@ -183,22 +160,15 @@ impl Routing {
         if !self.well_formed() {
             return self.refuse_done();
         }
-        let mut route_keys = self.route_keys;
-        let mut route_words = self.route_words;
-        let mut route_usage = self.route_usage;
-        let x = route_calls::note_relayed_discovery(
-            &mut route_keys,
-            &mut route_words,
-            &mut route_usage,
-            self.routes,
-            destination,
-        );
-        let answer = x.answer;
         let mut state = self;
-        state.route_keys = route_keys;
-        state.route_words = route_words;
-        state.route_usage = route_usage;
-        state.routes = x.routes;
+        let mut routes = Routes {
+            keys: &mut state.route_keys,
+            words: &mut state.route_words,
+            usage: &mut state.route_usage,
+            count: state.routes,
+        };
+        let answer = route_calls::note_relayed_discovery(&mut routes, destination);
+        state.routes = routes.count;
         DoneOutcome { answer, state }
     }
 
@@ -209,23 +179,17 @@ impl Routing {
         if !self.well_formed() {
             return self.refuse_told(Refusal::StateIllFormed);
         }
-        let mut route_keys = self.route_keys;
-        let mut route_words = self.route_words;
-        let mut route_usage = self.route_usage;
-        let x = route_calls::remove_route(
-            &mut route_keys,
-            &mut route_words,
-            &mut route_usage,
-            self.routes,
-            destination,
-        );
         let mut state = self;
-        state.route_keys = route_keys;
-        state.route_words = route_words;
-        state.route_usage = route_usage;
-        state.routes = x.routes;
+        let mut routes = Routes {
+            keys: &mut state.route_keys,
+            words: &mut state.route_words,
+            usage: &mut state.route_usage,
+            count: state.routes,
+        };
+        let removed = route_calls::remove_route(&mut routes, destination);
+        state.routes = routes.count;
         ToldOutcome {
-            answer: Ok(x.removed),
+            answer: Ok(removed),
             state,
         }
     }

@@ -1,9 +1,7 @@
-// What the benchmark runs of the decision: many calls on the same states and store, in the exported form and on columns that are lent.
+// What the benchmark runs of the decision: many calls on the same states and store, in the exported form and on tables that are lent.
 // A row of the inputs is eight numbers. The answers are added up, so that they can be compared with the Rust's.
 ghost use Rattle.std.specs.Prelude.{◌≡◌, false};
-ghost use Rattle.route_table.specs.Table as route;
-ghost use Rattle.record_table.specs.Table as record_of;
-ghost use Rattle.relay_store.specs.Packed.{Together};
+ghost use Rattle.record_table.specs.Lent.{seen_table};
 ghost use Rattle.relay_store.specs.Store.{Agrees};
 ghost use Rattle.routing.specs.State as state-of;
 ghost use Rattle.routing.specs.State.{record_table};
@@ -17,6 +15,8 @@ use hop_choice::{Policy, RouteDirective, SendKind};
 use neighbor_table::{NwkDeviceType, Relationship};
 use neighbors::{Neighbors, Outcome};
 use next_hop::{NextHop, ResolveOutcome, SendMode};
+use record_table::RecordsSeen;
+use route_table::RoutesSeen;
 use routing::Routing;
 use types::{Eui64, Nwk, Refusal};
 
@@ -132,30 +132,20 @@ pub fn decisions(routing: Routing, neighbors: Neighbors, store: &[u16], inputs: 
     sum
 }
 
-// The same on columns that are lent.
+// The same on tables that are lent.
 fn decision_lent<'a>(
-    route_keys: &'a [u16],
-    route_words: &'a [u64],
-    route_usage: &'a [u32],
-    routes: usize,
-    record_keys: &'a [u16],
-    record_lengths: &'a [u8],
-    records: usize,
+    routes: &RoutesSeen,
+    records: &RecordsSeen,
     store: &[u16],
     nwks: &'a [u16],
     links: &'a [u64],
     count: usize,
     row: &[u64],
 ) -> u64
-    requires { route.WellFormed (route.in_columns route_keys.now route_words.now route_usage.now routes) × Together (record_of.in_columns record_keys.now record_lengths.now records) store.now × OfTable nwks.now links.now count }
+    requires { Agrees (seen_table records.now) store.now × OfTable nwks.now links.now count }
 {
     let o = next_hop::decide(
-        route_keys,
-        route_words,
-        route_usage,
         routes,
-        record_keys,
-        record_lengths,
         records,
         store,
         nwks,
@@ -171,23 +161,13 @@ fn decision_lent<'a>(
 fn decisions_held(routing: Routing, neighbors: Neighbors, store: &[u16], inputs: &[u64]) -> u64
     requires { state-of.WellFormed routing × neighbours.WellFormed neighbors × Agrees (record_table routing) store.now }
 {
-    let route_keys = routing.route_keys;
-    let route_words = routing.route_words;
-    let route_usage = routing.route_usage;
-    let record_keys = routing.record_keys;
-    let record_lengths = routing.record_lengths;
     let nwks = neighbors.nwks;
     let links = neighbors.links;
     let mut sum: u64 = 0;
     for row in inputs.chunks_exact(8) {
         let x = decision_lent(
-            &route_keys,
-            &route_words,
-            &route_usage,
-            routing.routes,
-            &record_keys,
-            &record_lengths,
-            routing.records,
+            &routing.routes_seen(),
+            &routing.records_seen(),
             store,
             &nwks,
             &links,

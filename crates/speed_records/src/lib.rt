@@ -3,12 +3,11 @@
 #![tactic(auto)]
 
 ghost use Rattle.std.specs.Prelude.{◌≤◌};
-ghost use Rattle.record_table.specs.Table.{in_columns};
+ghost use Rattle.record_table.specs.Lent.{table, SameColumns};
 ghost use Rattle.relay_store.specs.Store.{Agrees};
-ghost use Rattle.relay_store.specs.Packed.{Together};
 ghost use Rattle.routing.specs.State.{WellFormed, record_table};
 
-use route_record::Recorded;
+use record_table::Records;
 use routing::{RouteToAnswer, RouteToOutcome, Routing};
 use speed_routes::Turn;
 use standard::RelayList;
@@ -81,37 +80,32 @@ pub fn records(state: Routing, store: &mut [u16], inputs: &[u64]) -> u64 {
     sum
 }
 
-// The same on columns that are lent.
-fn record_lent(
-    keys: &mut [u16],
-    lengths: &mut [u8],
-    count: usize,
-    store: &mut [u16],
-    row: &[u64],
-) -> Recorded
-    requires { Together (in_columns keys.old lengths.old count) store.old }
-    ensures { Together (in_columns keys.new lengths.new result.records) store.new }
+// The same on a table that is lent.
+fn record_lent(records: &mut Records, store: &mut [u16], row: &[u64]) -> Result<bool, Refusal>
+    requires { Agrees (table records.old) store.old }
+    ensures { SameColumns records.old records.new × Agrees (table records.new) store.new }
 {
     let relays = relays_in(row);
-    route_record::store_record(keys, lengths, count, store, numbers::nwk(row, 0), relays)
+    route_record::store_record(records, store, numbers::nwk(row, 0), relays)
 }
 
 // The tests of the exported form once, before the first row.
 pub fn records_core(state: Routing, store: &mut [u16], inputs: &[u64]) -> u64 {
-    let mut keys = state.record_keys;
-    let mut lengths = state.record_lengths;
-    let mut count = state.records;
-    if !record_table::well_formed(&keys, &lengths, count) {
+    if !record_table::well_formed(&state.record_keys, &state.record_lengths, state.records) {
         return 0;
     }
-    if !relay_store::agrees(&lengths, store) {
+    if !relay_store::agrees(&state.record_lengths, store) {
         return 0;
     }
+    let mut held = state;
+    let mut records = Records {
+        keys: &mut held.record_keys,
+        lengths: &mut held.record_lengths,
+        count: held.records,
+    };
     let mut sum: u64 = 0;
     for row in inputs.chunks_exact(8) {
-        let x = record_lent(&mut keys, &mut lengths, count, store, row);
-        let answer = x.answer;
-        count = x.records;
+        let answer = record_lent(&mut records, store, row);
         sum = std::num::wrapping_add_u64(sum, record_weight(answer));
     }
     sum

@@ -1,12 +1,9 @@
-// What the benchmark runs of the route searches: many calls on one state, in the exported form and on columns that are lent.
+// What the benchmark runs of the route searches: many calls on one state, in the exported form and on tables that are lent.
 // A row of the inputs is eight numbers. The answers are added up, so that they can be compared with the Rust's.
 #![tactic(auto)]
 
-ghost use Rattle.search_tables.specs.Packed.{in_columns, WellFormed};
-
-use route_begin::BeginResult;
-use route_reply::ReplyResult;
-use route_request::RequestResult;
+use discovery_table::{Discoveries, DiscoveryValues};
+use route_table::Routes;
 use routing::Routing;
 use standard::{ManyToOne, RouteReplyDisposition, RouteUpdate};
 use types::{Nwk, Refusal};
@@ -106,29 +103,14 @@ pub fn replies(state: Routing, inputs: &[u64]) -> u64 {
     sum
 }
 
-// The same on columns that are lent.
+// The same on tables that are lent.
 fn reply_lent(
-    route_keys: &mut [u16],
-    route_words: &mut [u64],
-    route_usage: &mut [u32],
-    routes: usize,
-    discovery_keys: &[u32],
-    discovery_words: &mut [u64],
-    discovery_ends: &mut [u64],
-    discoveries: usize,
+    routes: &mut Routes,
+    discoveries: &mut DiscoveryValues,
     row: &[u64],
-) -> ReplyResult
-    requires { WellFormed (in_columns route_keys.old route_words.old route_usage.old routes discovery_keys.now discovery_words.old discovery_ends.old discoveries) }
-    ensures { WellFormed (in_columns route_keys.new route_words.new route_usage.new result.routes discovery_keys.now discovery_words.new discovery_ends.new discoveries) }
-{
+) -> Result<(RouteReplyDisposition, Option<RouteUpdate>), Refusal> {
     route_reply::reply(
-        route_keys,
-        route_words,
-        route_usage,
         routes,
-        discovery_keys,
-        discovery_words,
-        discovery_ends,
         discoveries,
         numbers::nwk(row, 0),
         numbers::nwk(row, 1),
@@ -141,40 +123,38 @@ fn reply_lent(
 
 // The tests of the exported form once, before the first row.
 pub fn replies_core(state: Routing, inputs: &[u64]) -> u64 {
-    let mut route_keys = state.route_keys;
-    let mut route_words = state.route_words;
-    let mut route_usage = state.route_usage;
-    let discovery_keys = state.discovery_keys;
-    let mut discovery_words = state.discovery_words;
-    let mut discovery_ends = state.discovery_ends;
-    let mut routes = state.routes;
-    let discoveries = state.discoveries;
-    if !route_table::well_formed(&route_keys, &route_words, &route_usage, routes) {
-        return 0;
-    }
-    if !discovery_table::well_formed(
-        &discovery_keys,
-        &discovery_words,
-        &discovery_ends,
-        discoveries,
+    if !route_table::well_formed(
+        &state.route_keys,
+        &state.route_words,
+        &state.route_usage,
+        state.routes,
     ) {
         return 0;
     }
+    if !discovery_table::well_formed(
+        &state.discovery_keys,
+        &state.discovery_words,
+        &state.discovery_ends,
+        state.discoveries,
+    ) {
+        return 0;
+    }
+    let mut held = state;
+    let mut routes = Routes {
+        keys: &mut held.route_keys,
+        words: &mut held.route_words,
+        usage: &mut held.route_usage,
+        count: held.routes,
+    };
+    let mut discoveries = DiscoveryValues {
+        keys: &state.discovery_keys,
+        words: &mut held.discovery_words,
+        ends: &mut held.discovery_ends,
+        count: held.discoveries,
+    };
     let mut sum: u64 = 0;
     for row in inputs.chunks_exact(8) {
-        let x = reply_lent(
-            &mut route_keys,
-            &mut route_words,
-            &mut route_usage,
-            routes,
-            &discovery_keys,
-            &mut discovery_words,
-            &mut discovery_ends,
-            discoveries,
-            row,
-        );
-        let answer = x.answer;
-        routes = x.routes;
+        let answer = reply_lent(&mut routes, &mut discoveries, row);
         sum = std::num::wrapping_add_u64(sum, reply_weight(answer));
     }
     sum
@@ -209,29 +189,14 @@ pub fn requests(state: Routing, inputs: &[u64]) -> u64 {
     sum
 }
 
-// The same on columns that are lent.
+// The same on tables that are lent.
 fn request_lent(
-    route_keys: &mut [u16],
-    route_words: &mut [u64],
-    route_usage: &mut [u32],
-    routes: usize,
-    discovery_keys: &mut [u32],
-    discovery_words: &mut [u64],
-    discovery_ends: &mut [u64],
-    discoveries: usize,
+    routes: &mut Routes,
+    discoveries: &mut Discoveries,
     row: &[u64],
-) -> RequestResult
-    requires { WellFormed (in_columns route_keys.old route_words.old route_usage.old routes discovery_keys.old discovery_words.old discovery_ends.old discoveries) }
-    ensures { WellFormed (in_columns route_keys.new route_words.new route_usage.new result.routes discovery_keys.new discovery_words.new discovery_ends.new result.discoveries) }
-{
+) -> Result<(bool, Option<RouteUpdate>), Refusal> {
     route_request::request(
-        route_keys,
-        route_words,
-        route_usage,
         routes,
-        discovery_keys,
-        discovery_words,
-        discovery_ends,
         discoveries,
         numbers::nwk(row, 0),
         numbers::byte(row, 1),
@@ -246,41 +211,38 @@ fn request_lent(
 
 // The tests of the exported form once, before the first row.
 pub fn requests_core(state: Routing, inputs: &[u64]) -> u64 {
-    let mut route_keys = state.route_keys;
-    let mut route_words = state.route_words;
-    let mut route_usage = state.route_usage;
-    let mut discovery_keys = state.discovery_keys;
-    let mut discovery_words = state.discovery_words;
-    let mut discovery_ends = state.discovery_ends;
-    let mut routes = state.routes;
-    let mut discoveries = state.discoveries;
-    if !route_table::well_formed(&route_keys, &route_words, &route_usage, routes) {
-        return 0;
-    }
-    if !discovery_table::well_formed(
-        &discovery_keys,
-        &discovery_words,
-        &discovery_ends,
-        discoveries,
+    if !route_table::well_formed(
+        &state.route_keys,
+        &state.route_words,
+        &state.route_usage,
+        state.routes,
     ) {
         return 0;
     }
+    if !discovery_table::well_formed(
+        &state.discovery_keys,
+        &state.discovery_words,
+        &state.discovery_ends,
+        state.discoveries,
+    ) {
+        return 0;
+    }
+    let mut held = state;
+    let mut routes = Routes {
+        keys: &mut held.route_keys,
+        words: &mut held.route_words,
+        usage: &mut held.route_usage,
+        count: held.routes,
+    };
+    let mut discoveries = Discoveries {
+        keys: &mut held.discovery_keys,
+        words: &mut held.discovery_words,
+        ends: &mut held.discovery_ends,
+        count: held.discoveries,
+    };
     let mut sum: u64 = 0;
     for row in inputs.chunks_exact(8) {
-        let x = request_lent(
-            &mut route_keys,
-            &mut route_words,
-            &mut route_usage,
-            routes,
-            &mut discovery_keys,
-            &mut discovery_words,
-            &mut discovery_ends,
-            discoveries,
-            row,
-        );
-        let answer = x.answer;
-        routes = x.routes;
-        discoveries = x.discoveries;
+        let answer = request_lent(&mut routes, &mut discoveries, row);
         sum = std::num::wrapping_add_u64(sum, request_weight(answer));
     }
     sum
@@ -311,30 +273,15 @@ pub fn begins(state: Routing, inputs: &[u64]) -> u64 {
     sum
 }
 
-// The same on columns that are lent, under the next request id.
+// The same on tables that are lent, under the next request id.
 fn begin_lent(
-    route_keys: &mut [u16],
-    route_words: &mut [u64],
-    route_usage: &mut [u32],
-    routes: usize,
-    discovery_keys: &mut [u32],
-    discovery_words: &mut [u64],
-    discovery_ends: &mut [u64],
-    discoveries: usize,
+    routes: &mut Routes,
+    discoveries: &mut Discoveries,
     id: u8,
     row: &[u64],
-) -> BeginResult
-    requires { WellFormed (in_columns route_keys.old route_words.old route_usage.old routes discovery_keys.old discovery_words.old discovery_ends.old discoveries) }
-    ensures { WellFormed (in_columns route_keys.new route_words.new route_usage.new result.routes discovery_keys.new discovery_words.new discovery_ends.new result.discoveries) }
-{
+) -> Result<u8, Refusal> {
     route_begin::begin(
-        route_keys,
-        route_words,
-        route_usage,
         routes,
-        discovery_keys,
-        discovery_words,
-        discovery_ends,
         discoveries,
         numbers::nwk(row, 0),
         id,
@@ -354,45 +301,41 @@ fn begun(a: Result<u8, Refusal>, last: u8) -> u8 {
 
 // The tests of the exported form once, before the first row.
 pub fn begins_core(state: Routing, inputs: &[u64]) -> u64 {
-    let mut route_keys = state.route_keys;
-    let mut route_words = state.route_words;
-    let mut route_usage = state.route_usage;
-    let mut discovery_keys = state.discovery_keys;
-    let mut discovery_words = state.discovery_words;
-    let mut discovery_ends = state.discovery_ends;
-    let mut routes = state.routes;
-    let mut discoveries = state.discoveries;
-    let mut last = state.request_sequence_number;
-    if !route_table::well_formed(&route_keys, &route_words, &route_usage, routes) {
-        return 0;
-    }
-    if !discovery_table::well_formed(
-        &discovery_keys,
-        &discovery_words,
-        &discovery_ends,
-        discoveries,
+    if !route_table::well_formed(
+        &state.route_keys,
+        &state.route_words,
+        &state.route_usage,
+        state.routes,
     ) {
         return 0;
     }
+    if !discovery_table::well_formed(
+        &state.discovery_keys,
+        &state.discovery_words,
+        &state.discovery_ends,
+        state.discoveries,
+    ) {
+        return 0;
+    }
+    let mut held = state;
+    let mut routes = Routes {
+        keys: &mut held.route_keys,
+        words: &mut held.route_words,
+        usage: &mut held.route_usage,
+        count: held.routes,
+    };
+    let mut discoveries = Discoveries {
+        keys: &mut held.discovery_keys,
+        words: &mut held.discovery_words,
+        ends: &mut held.discovery_ends,
+        count: held.discoveries,
+    };
+    let mut last = state.request_sequence_number;
     let mut sum: u64 = 0;
     for row in inputs.chunks_exact(8) {
         let id = types::next_id(last);
-        let x = begin_lent(
-            &mut route_keys,
-            &mut route_words,
-            &mut route_usage,
-            routes,
-            &mut discovery_keys,
-            &mut discovery_words,
-            &mut discovery_ends,
-            discoveries,
-            id,
-            row,
-        );
-        let answer = x.answer;
+        let answer = begin_lent(&mut routes, &mut discoveries, id, row);
         last = begun(answer, last);
-        routes = x.routes;
-        discoveries = x.discoveries;
         sum = std::num::wrapping_add_u64(sum, begin_weight(answer));
     }
     sum

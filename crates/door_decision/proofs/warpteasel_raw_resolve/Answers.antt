@@ -4,6 +4,8 @@ use mathlib.Core.Path.{refl, sym, ◌∙◌}
 use borrow.Author.Tests.{not-true, not-false}
 use Rattle.standard.specs.Route.{nwk}
 use Rattle.standard.proofs.Tells.{denied}
+use Rattle.route_table.proofs.Lent as routes-lent
+use Rattle.record_table.proofs.Lent as records-lent
 use Rattle.neighbor_columns.specs.Table as neighbours
 use Rattle.door_decision.specs.Decision.{ResolvePlaces, resolve_at, Resolvable}
 use Rattle.door_decision.proofs.Resolved.{resolvable, routes-formed, near-formed, together, host-short, ill-answered, apart-answered, long-answered, rule-answered}
@@ -42,10 +44,16 @@ returns-then-long-has c =
     let a = c.args in
     long-answered _ _ _ _ c.columns_formed-routes_fine.ensures _ _ _ c.columns_formed-neighbors_fine.ensures a.store.now a.is_concentrator a.force_route_discovery a.max_source_route a.mode (nwk a.host_hop) a.host_relays.now (nwk a.destination) (places (goal.at.returns-then-long-has c).Start) (values (goal.at.returns-then-long-has c).Else-not-is_call) (not-false _ c.if-not-routes_fine-neighbors_fine.false-raw) (sym c.agrees.ensures ∙ not-false _ c.if-not-agrees.false-raw) c.if-long-has.true
 
+pub invariant_of-held : goal.invariant_of-held
+invariant_of-held c = record { formed = routes-lent.told _ (routes-formed _ _ _ _ c.columns_formed-routes_fine.ensures _ _ _ c.columns_formed-neighbors_fine.ensures (not-false _ c.if-not-routes_fine-neighbors_fine.false-raw)).routes }
+
+pub invariant_of-kept : goal.invariant_of-kept
+invariant_of-kept c = record { formed = records-lent.told _ (routes-formed _ _ _ _ c.columns_formed-routes_fine.ensures _ _ _ c.columns_formed-neighbors_fine.ensures (not-false _ c.if-not-routes_fine-neighbors_fine.false-raw)).records }
+
 pub decide-requires : goal.decide-requires
 decide-requires c =
     let a = c.args in
-    ((routes-formed _ _ _ _ c.columns_formed-routes_fine.ensures _ _ _ c.columns_formed-neighbors_fine.ensures (not-false _ c.if-not-routes_fine-neighbors_fine.false-raw)).routes, together _ _ _ _ c.columns_formed-routes_fine.ensures _ _ _ c.columns_formed-neighbors_fine.ensures (not-false _ c.if-not-routes_fine-neighbors_fine.false-raw) a.store.now (sym c.agrees.ensures ∙ not-false _ c.if-not-agrees.false-raw), record { table = (neighbours.in_columns a.keys.now a.nwks.now a.links.now a.counts.now a.deadlines.now a.periods.now a.heard.now a.added.now a.beacons.now a.bytes.now a.count); formed = (near-formed _ _ _ _ c.columns_formed-routes_fine.ensures _ _ _ c.columns_formed-neighbors_fine.ensures (not-false _ c.if-not-routes_fine-neighbors_fine.false-raw)).table.formed }, rw c.kind.ensures (host-short _ _ _ _ c.columns_formed-routes_fine.ensures _ _ _ c.columns_formed-neighbors_fine.ensures a.store.now a.is_concentrator a.force_route_discovery a.max_source_route a.mode (nwk a.host_hop) a.host_relays.now (nwk a.destination) (places (goal.at.decide-requires c).Start) (values (goal.at.decide-requires c).Else-not-is_call) c.if-long-has.false), (values (goal.at.decide-requires c).Else-not-is_call).rest.header)
+    ((together _ _ _ _ c.columns_formed-routes_fine.ensures _ _ _ c.columns_formed-neighbors_fine.ensures (not-false _ c.if-not-routes_fine-neighbors_fine.false-raw) a.store.now (sym c.agrees.ensures ∙ not-false _ c.if-not-agrees.false-raw)).agrees, record { table = (neighbours.in_columns a.keys.now a.nwks.now a.links.now a.counts.now a.deadlines.now a.periods.now a.heard.now a.added.now a.beacons.now a.bytes.now a.count); formed = (near-formed _ _ _ _ c.columns_formed-routes_fine.ensures _ _ _ c.columns_formed-neighbors_fine.ensures (not-false _ c.if-not-routes_fine-neighbors_fine.false-raw)).table.formed }, rw c.kind.ensures (host-short _ _ _ _ c.columns_formed-routes_fine.ensures _ _ _ c.columns_formed-neighbors_fine.ensures a.store.now a.is_concentrator a.force_route_discovery a.max_source_route a.mode (nwk a.host_hop) a.host_relays.now (nwk a.destination) (places (goal.at.decide-requires c).Start) (values (goal.at.decide-requires c).Else-not-is_call) c.if-long-has.false), (values (goal.at.decide-requires c).Else-not-is_call).rest.header)
 
 pub returns : goal.returns
 returns c =

@@ -3,6 +3,7 @@ use mathlib.Core.Path.{refl}
 use borrow.Author.Tests.{not-true, not-false}
 use Rattle.routing.specs.Queries.{next_hop_of}
 use Rattle.routing.specs.State.{well_formed}
+use Rattle.route_table.proofs.Lent.{told}
 use Rattle.door.proofs.Lent.{test_of, formed-in, says-as, ill-asked, rule-asked}
 use Rattle.door_queries.proofs.warpteasel_raw_next_hop.Goals as goal
 
@@ -10,8 +11,8 @@ pub returns-then-not-columns_formed : goal.returns-then-not-columns_formed
 unfolding next_hop_of
 returns-then-not-columns_formed c = ill-asked well_formed _ _ (test_of _ _ _ (λ _. c.columns_formed.ensures) (not-true _ c.if-not-columns_formed.true-raw)) (λ _. record { status = refl; places = refl })
 
-pub next_hop-hop-requires : goal.next_hop-hop-requires
-next_hop-hop-requires c = (formed-in _ _ _ _ c.columns_formed.ensures (not-false _ c.if-not-columns_formed.false-raw)).routes
+pub invariant_of-held : goal.invariant_of-held
+invariant_of-held c = record { formed = told _ (formed-in _ _ _ _ c.columns_formed.ensures (not-false _ c.if-not-columns_formed.false-raw)).routes }
 
 pub returns : goal.returns
 unfolding next_hop_of

@@ -1,9 +1,10 @@
 -- Columns that are not well formed are refused; in any others what the rule leaves is the call's state, and its answer is said.
-use mathlib.Core.Path.{refl, ap, ◌∙◌}
+use mathlib.Core.Path.{refl, sym, ap, ◌∙◌}
 use borrow.Author.Tests.{not-true, not-false}
 use Rattle.routing.specs.State.{well_formed}
 use Rattle.door.specs.Places.{done_status}
 use Rattle.routing.specs.Routes.{note_relayed_discovery}
+use Rattle.route_table.proofs.Lent.{told, given-back}
 use Rattle.door.proofs.Lent.{test_of, formed-in, routes-left, ill-made, rule-made}
 use Rattle.door_routes.proofs.warpteasel_raw_note_relayed_discovery.Goals as goal
 
@@ -11,9 +12,12 @@ pub returns-then-not-columns_formed : goal.returns-then-not-columns_formed
 unfolding note_relayed_discovery
 returns-then-not-columns_formed c = ill-made well_formed _ _ (test_of _ _ _ (λ _. c.columns_formed.ensures) (not-true _ c.if-not-columns_formed.true-raw)) (λ _. refl) (λ _. record { status = refl; places = refl })
 
-pub note_relayed_discovery-x-requires : goal.note_relayed_discovery-x-requires
-note_relayed_discovery-x-requires c = (formed-in _ _ _ _ c.columns_formed.ensures (not-false _ c.if-not-columns_formed.false-raw)).routes
+pub invariant_of-held : goal.invariant_of-held
+invariant_of-held c = record { formed = told _ (formed-in _ _ _ _ c.columns_formed.ensures (not-false _ c.if-not-columns_formed.false-raw)).routes }
 
 pub returns : goal.returns
 unfolding note_relayed_discovery
-returns c = rule-made well_formed _ _ (test_of _ _ _ (λ _. c.columns_formed.ensures) (not-false _ c.if-not-columns_formed.false-raw)) (λ _. routes-left _ _ _ _ _ _ _ c.note_relayed_discovery-x.ensures.left) (λ _. record { status = c.done_status.ensures ∙ ap done_status c.note_relayed_discovery-x.ensures.said; places = refl })
+returns c =
+    let left = c.note_relayed_discovery-answer.ensures.left in
+    let now = given-back c.note_relayed_discovery-answer.new.routes _ _ _ (c.route_keys-1.given.1.1 (sym left.same.keys)) (c.route_words-1.given.1.1 (sym left.same.words)) (c.route_usage-1.given.1.1 (sym left.same.usage)) _ left.routes in
+    rule-made well_formed _ _ (test_of _ _ _ (λ _. c.columns_formed.ensures) (not-false _ c.if-not-columns_formed.false-raw)) (λ _. routes-left _ _ _ _ _ _ _ now) (λ _. record { status = c.done_status.ensures ∙ ap done_status c.note_relayed_discovery-answer.ensures.said; places = refl })

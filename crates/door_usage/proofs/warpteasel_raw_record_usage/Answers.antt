@@ -1,8 +1,10 @@
 -- Columns that are not well formed are refused; in any others what the rule leaves is the call's state.
+use Rattle.std.proofs.Common.{rules}
 use mathlib.Core.Path.{refl}
 use borrow.Author.Tests.{not-true, not-false}
 use Rattle.routing.specs.Routes.{record_usage}
 use Rattle.routing.specs.State.{well_formed}
+use Rattle.route_table.proofs.Lent.{told, values-given-back}
 use Rattle.door.proofs.Lent.{test_of, formed-in, routes-left, ill-made, rule-made}
 use Rattle.door_usage.proofs.warpteasel_raw_record_usage.Goals as goal
 
@@ -10,9 +12,12 @@ pub returns-then-not-columns_formed : goal.returns-then-not-columns_formed
 unfolding record_usage
 returns-then-not-columns_formed c = ill-made well_formed _ _ (test_of _ _ _ (λ _. c.columns_formed.ensures) (not-true _ c.if-not-columns_formed.true-raw)) (λ _. refl) (λ _. record { status = refl; places = refl })
 
-pub record_usage-requires : goal.record_usage-requires
-record_usage-requires c = (formed-in _ _ _ _ c.columns_formed.ensures (not-false _ c.if-not-columns_formed.false-raw)).routes
+pub invariant_of-held : goal.invariant_of-held
+invariant_of-held c = record { formed = told _ (formed-in _ _ _ _ c.columns_formed.ensures (not-false _ c.if-not-columns_formed.false-raw)).routes }
 
 pub returns : goal.returns
 unfolding record_usage
-returns c = rule-made well_formed _ _ (test_of _ _ _ (λ _. c.columns_formed.ensures) (not-false _ c.if-not-columns_formed.false-raw)) (λ _. routes-left _ _ _ _ _ _ _ c.record_usage.ensures) (λ _. record { status = refl; places = refl })
+returns c =
+    let left = c.record_usage.ensures in
+    let now = values-given-back _ c.record_usage.new.routes _ left _ _ (search rules) (search rules) in
+    rule-made well_formed _ _ (test_of _ _ _ (λ _. c.columns_formed.ensures) (not-false _ c.if-not-columns_formed.false-raw)) (λ _. routes-left _ _ _ _ _ _ _ now) (λ _. record { status = refl; places = refl })

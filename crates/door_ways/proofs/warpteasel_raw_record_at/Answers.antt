@@ -3,6 +3,7 @@
 use Rattle.std.specs.Prelude.{Ok}
 use mathlib.Core.Path.{refl, sym, ap, ◌∙◌}
 use borrow.Author.Tests.{not-true, not-false}
+use Rattle.record_table.proofs.Lent as records-lent
 use Rattle.relay_store.proofs.Agree.{agrees-told}
 use Rattle.route_record.specs.declared.RecordRow.{RecordRow}
 use Rattle.routing.specs.Records.{record_at}
@@ -25,8 +26,11 @@ pub returns-then-not-agrees : goal.returns-then-not-agrees
 unfolding record_at
 returns-then-not-agrees c = record { call = λ _. rule-asked well_formed _ _ (test_of _ _ _ (λ _. c.columns_formed.ensures) (not-false _ c.if-not-columns_formed.false-raw)) (λ _. rw (sym c.agrees.ensures ∙ not-true _ c.if-not-agrees.true-raw) (record { status = refl; places = refl })); none = λ n. absurd (n c.if-relays-ne32.false) }
 
+pub invariant_of-kept : goal.invariant_of-kept
+invariant_of-kept c = record { formed = records-lent.told _ (formed-in _ _ _ _ c.columns_formed.ensures (not-false _ c.if-not-columns_formed.false-raw)).records }
+
 pub record_at-x-requires : goal.record_at-x-requires
-record_at-x-requires c = record { formed = (formed-in _ _ _ _ c.columns_formed.ensures (not-false _ c.if-not-columns_formed.false-raw)).records; agrees = (agrees-told _ _).fact (sym c.agrees.ensures ∙ not-false _ c.if-not-agrees.false-raw) }
+record_at-x-requires c = (agrees-told _ _).fact (sym c.agrees.ensures ∙ not-false _ c.if-not-agrees.false-raw)
 
 pub returns : goal.returns
 unfolding record_at

@@ -2,6 +2,8 @@
 -- way that the record names, or the Active route, is said.
 use mathlib.Core.Path.{refl, sym, ap, ◌∙◌}
 use borrow.Author.Tests.{not-true, not-false}
+use Rattle.record_table.proofs.Lent as records-lent
+use Rattle.route_table.proofs.Lent as routes-lent
 use Rattle.relay_store.proofs.Agree.{agrees-told}
 use Rattle.route_record.specs.declared.RecordWay.{RecordWay}
 use Rattle.route_table.specs.Table.{in_columns, rows_of}
@@ -26,11 +28,17 @@ pub returns-then-not-agrees : goal.returns-then-not-agrees
 unfolding route_to
 returns-then-not-agrees c = record { call = λ _. rule-asked well_formed _ _ (test_of _ _ _ (λ _. c.columns_formed.ensures) (not-false _ c.if-not-columns_formed.false-raw)) (λ _. rw (sym c.agrees.ensures ∙ not-true _ c.if-not-agrees.true-raw) (record { status = refl; places = refl })); none = λ n. absurd (n c.if-relays-ne32.false) }
 
+pub invariant_of-kept : goal.invariant_of-kept
+invariant_of-kept c = record { formed = records-lent.told _ (formed-in _ _ _ _ c.columns_formed.ensures (not-false _ c.if-not-columns_formed.false-raw)).records }
+
 pub way_to-x-requires : goal.way_to-x-requires
-way_to-x-requires c = record { formed = (formed-in _ _ _ _ c.columns_formed.ensures (not-false _ c.if-not-columns_formed.false-raw)).records; agrees = (agrees-told _ _).fact (sym c.agrees.ensures ∙ not-false _ c.if-not-agrees.false-raw) }
+way_to-x-requires c = (agrees-told _ _).fact (sym c.agrees.ensures ∙ not-false _ c.if-not-agrees.false-raw)
+
+pub invariant_of-held : goal.invariant_of-held
+invariant_of-held c = record { formed = routes-lent.told _ (formed-in _ _ _ _ c.columns_formed.ensures (not-false _ c.if-not-columns_formed.false-raw)).routes }
 
 pub say_way-requires : goal.say_way-requires
-say_way-requires c = ((formed-in _ _ _ _ c.columns_formed.ensures (not-false _ c.if-not-columns_formed.false-raw)).routes, c.if-relays-ne32.false)
+say_way-requires c = c.if-relays-ne32.false
 
 pub returns : goal.returns
 unfolding route_to

@@ -1,28 +1,40 @@
 -- Where no discovery is over, nothing goes; else the routes that stay are kept while the discoveries are as they were, and then the live ones of these.
 -- Assumes nothing.
-use mathlib.Core.Path.{sym, ◌∙◌}
+use mathlib.Core.Path.{sym, ap, ◌∙◌}
 use borrow.Author.Tests.{not-true}
-use Rattle.search_tables.specs.Packed.{in_columns, tables_of}
+use Rattle.discovery_table.specs.Lent as discoveries
+use Rattle.discovery_table.specs.Table.{DiscoveryTable, rows_of}
+use Rattle.discovery_table.proofs.Lent as discoveries-lent
+use Rattle.route_table.specs.Lent.{routes_of}
+use Rattle.route_table.proofs.Lent as routes-lent
+use Rattle.standard.specs.Discovery.{is_over}
+use Rattle.standard.specs.Expiry.{expired}
+use Rattle.standard.specs.Query.{some_fits}
+use Rattle.search_tables.specs.Lent.{lent, rows_lent, both}
+use Rattle.search_tables.proofs.Lent.{formed, unmoved}
 use Rattle.expiry.proofs.Fit.{holds-all, both_left}
 use Rattle.expiry.proofs.expire.Goals as goal
-
-pub some_over-requires : goal.some_over-requires
-some_over-requires c = c.requires.discoveries
 
 pub returns-then-not-some_over : goal.returns-then-not-some_over
 returns-then-not-some_over c =
     let a = c.args in
-    let t = in_columns a.route_keys.now a.route_words.now a.route_usage.now a.routes a.discovery_keys.now a.discovery_words.now a.discovery_ends.now a.discoveries in
-    holds-all a.now_ms t c.requires (sym c.some_over.ensures ∙ not-true _ c.if-not-some_over.true-raw)
-
-pub keep_pending-n-requires : goal.keep_pending-n-requires
-keep_pending-n-requires c = c.requires
-
-pub keep_live-m-requires : goal.keep_live-m-requires
-keep_live-m-requires c = c.requires.discoveries
+    let r = a.routes.now in
+    let d = a.discoveries.now in
+    record {
+      memory = unmoved r d;
+      left = holds-all a.now_ms (lent r d) (formed r d) (ap (λ (t : DiscoveryTable). some_fits (is_over a.now_ms) (rows_of t)) (sym c.seen.ensures) ∙ sym c.some_over.ensures ∙ not-true _ c.if-not-some_over.true-raw);
+    }
 
 pub returns : goal.returns
 returns c =
     let a = c.args in
-    let t = in_columns a.route_keys.now a.route_words.now a.route_usage.now a.routes a.discovery_keys.now a.discovery_words.now a.discovery_ends.now a.discoveries in
-    both_left a.now_ms (tables_of t) _ c.keep_pending-n.ensures c.keep_live-m.ensures
+    let r = a.routes.now in
+    let d = a.discoveries.now in
+    let q = ap (λ (t : DiscoveryTable). (expired a.now_ms (both (routes_of r) (rows_of t))).routes) c.seen-before.ensures in
+    record {
+      memory = record { routes = c.keep_pending.ensures.same; discoveries = c.keep_live.ensures.same };
+      left =
+          both_left a.now_ms (rows_lent r d) (lent c.keep_pending.new.routes c.keep_live.new.self)
+          (routes-lent.holds c.keep_pending.new.routes _ (c.keep_pending.ensures.routes ∙ q))
+          (discoveries-lent.holds c.keep_live.new.self _ c.keep_live.ensures.discoveries);
+    }

@@ -2,30 +2,21 @@
 -- Assumes nothing.
 use mathlib.Core.Path.{sym, ◌∙◌}
 use borrow.Author.Tests.{not-true, not-false}
-use Rattle.discovery_table.specs.Table.{in_columns, rows_of}
+use Rattle.discovery_table.specs.Lent.{seen_discoveries}
 use Rattle.expiry.proofs.Left.{idle-stays, unnamed-stays, awaited-stays}
 use Rattle.expiry.proofs.stays.Goals as goal
 
 pub returns-then-not-is_underway : goal.returns-then-not-is_underway
 returns-then-not-is_underway c =
     let a = c.args in
-    let ds = rows_of (in_columns a.discovery_keys.now a.discovery_words.now a.discovery_ends.now a.discoveries) in
-    sym (idle-stays a.now_ms ds a.e (sym c.is_underway.ensures ∙ not-true _ c.if-not-is_underway.true-raw))
-
-pub names-requires : goal.names-requires
-names-requires c = c.requires
+    sym (idle-stays a.now_ms (seen_discoveries a.discoveries.now) a.e (sym c.is_underway.ensures ∙ not-true _ c.if-not-is_underway.true-raw))
 
 pub returns-then-not-names : goal.returns-then-not-names
 returns-then-not-names c =
     let a = c.args in
-    let ds = rows_of (in_columns a.discovery_keys.now a.discovery_words.now a.discovery_ends.now a.discoveries) in
-    sym (unnamed-stays a.now_ms ds a.e (sym c.is_underway.ensures ∙ not-false _ c.if-not-is_underway.false-raw) (sym c.names.ensures ∙ not-true _ c.if-not-names.true-raw))
-
-pub awaited-requires : goal.awaited-requires
-awaited-requires c = c.requires
+    sym (unnamed-stays a.now_ms (seen_discoveries a.discoveries.now) a.e (sym c.is_underway.ensures ∙ not-false _ c.if-not-is_underway.false-raw) (sym c.names.ensures ∙ not-true _ c.if-not-names.true-raw))
 
 pub returns : goal.returns
 returns c =
     let a = c.args in
-    let ds = rows_of (in_columns a.discovery_keys.now a.discovery_words.now a.discovery_ends.now a.discoveries) in
-    c.awaited.ensures ∙ sym (awaited-stays a.now_ms ds a.e (sym c.is_underway.ensures ∙ not-false _ c.if-not-is_underway.false-raw) (sym c.names.ensures ∙ not-false _ c.if-not-names.false-raw))
+    c.awaited.ensures ∙ sym (awaited-stays a.now_ms (seen_discoveries a.discoveries.now) a.e (sym c.is_underway.ensures ∙ not-false _ c.if-not-is_underway.false-raw) (sym c.names.ensures ∙ not-false _ c.if-not-names.false-raw))

@@ -3,8 +3,8 @@
 -- Assumes nothing.
 use mathlib.Core.Path.{sym, ◌∙◌}
 use borrow.Enum.Refused.{opened}
-use Rattle.record_table.specs.Table as record_of
-use Rattle.route_table.specs.Table as route
+use Rattle.record_table.specs.Lent.{seen_table}
+use Rattle.route_table.specs.Lent.{seen_routes}
 use Rattle.neighbor_columns.specs.Table as neighbor
 use Rattle.neighbor_queries_lent.specs.Read.{lent_words}
 use Rattle.hop_choice.proofs.Steps as steps
@@ -24,6 +24,6 @@ returns-then-any_fitting c =
 pub returns : goal.returns
 returns c =
     let a = c.args in
-    let routes = route.rows_of (route.in_columns a.route_keys.now a.route_words.now a.route_usage.now a.routes) in
-    let records = record_of.in_columns a.record_keys.now a.record_lengths.now a.records in
+    let routes = seen_routes a.routes.now in
+    let records = seen_table a.records.now in
     λ t f. steps.by-tables routes records (neighbor.rows_of (lent_words a.nwks.now a.links.now a.neighbors t)) a.destination a.policy a.relays a.suppressed a.kind _ c.in-Route.is (opened c.in_default-directive.in_default-directive-own.keys2) (sym (c.any_fitting.ensures t f) ∙ c.if-any_fitting.false) _ c.by_tables.ensures

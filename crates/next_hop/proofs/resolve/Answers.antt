@@ -1,10 +1,13 @@
 -- States that are not well formed, a store that disagrees and lists too long are refused; of any other call the columns are lent, and the decision is theirs.
 -- Assumes nothing.
 use mathlib.Core.Bool.{Bool, true, false, ◌&&◌, ◌||◌}
-use mathlib.Core.Path.{◌≡◌, refl, sym, ◌∙◌}
+use mathlib.Core.Path.{◌≡◌, refl, sym, ◌∙◌, subst}
 use borrow.Author.Tests.{not-true, not-false}
 use Rattle.standard.proofs.Tells.{tells_both}
-use Rattle.relay_store.specs.Store.{agrees}
+use Rattle.neighbor_columns.specs.Table as neighbor
+use Rattle.record_table.specs.Table.{RecordTable}
+use Rattle.route_table.specs.Table.{rows_of}
+use Rattle.relay_store.specs.Store.{agrees, Agrees}
 use Rattle.relay_store.proofs.Agree.{agrees-told}
 use Rattle.routing.specs.State as routes
 use Rattle.routing.specs.State.{record_table}
@@ -12,7 +15,7 @@ use Rattle.routing.proofs.State as routes-of
 use Rattle.neighbors.specs.State as neighbours
 use Rattle.neighbors.specs.State.{table_in}
 use Rattle.neighbors.proofs.State as neighbours-of
-use Rattle.next_hop.specs.Decision.{resolve}
+use Rattle.next_hop.specs.Decision.{decided_on, resolve}
 use Rattle.next_hop.proofs.resolve.Goals as goal
 use Rattle.next_hop.proofs.resolve.Goals.{Else-not-routes_fine-neighbors_fine, Else-not-agrees}
 
@@ -50,15 +53,23 @@ returns-then-names_long-carries_long c =
     let long = rw (c.carries_long.ensures, c.names_long.ensures) at c.if-names_long-carries_long.true in
     rw (good (goal.at.returns-then-names_long-carries_long c).Else-not-routes_fine-neighbors_fine, fit (goal.at.returns-then-names_long-carries_long c).Else-not-agrees, long) c.refuse-then-names_long-carries_long.ensures
 
+pub records_seen-requires : goal.records_seen-requires
+records_seen-requires c = ((tells_both (routes-of.state-told _) (neighbours-of.state-told _)).fact (good (goal.at.records_seen-requires c).Else-not-routes_fine-neighbors_fine)).0
+
+pub routes_seen-requires : goal.routes_seen-requires
+routes_seen-requires c = ((tells_both (routes-of.state-told _) (neighbours-of.state-told _)).fact (good (goal.at.routes_seen-requires c).Else-not-routes_fine-neighbors_fine)).0
+
 pub decide-requires : goal.decide-requires
 decide-requires c =
     let formed = (tells_both (routes-of.state-told _) (neighbours-of.state-told _)).fact (good (goal.at.decide-requires c).Else-not-routes_fine-neighbors_fine) in
     let few = rw c.names_long.ensures at c.if-names_long-carries_long.false in
-    (formed.0.routes, record { formed = formed.0.records; agrees = (agrees-told _ _).fact (fit (goal.at.decide-requires c).Else-not-agrees) }, record { table = table_in c.args.neighbors; formed = formed.1.table.formed }, neither _ _ few)
+    (subst (λ (t : RecordTable). Agrees t c.args.store.now) (sym c.records_seen.ensures) ((agrees-told _ _).fact (fit (goal.at.decide-requires c).Else-not-agrees)), record { table = table_in c.args.neighbors; formed = formed.1.table.formed }, neither _ _ few)
 
 pub returns : goal.returns
 unfolding resolve
 returns c =
     let formed = (tells_both (routes-of.state-told _) (neighbours-of.state-told _)).fact (good (goal.at.returns c).Else-not-routes_fine-neighbors_fine) in
     let few = rw (c.carries_long.ensures, c.names_long.ensures) at c.if-names_long-carries_long.false in
-    rw (good (goal.at.returns c).Else-not-routes_fine-neighbors_fine, fit (goal.at.returns c).Else-not-agrees, few) (c.decide.ensures (table_in c.args.neighbors) formed.1.table.formed)
+    rw (good (goal.at.returns c).Else-not-routes_fine-neighbors_fine, fit (goal.at.returns c).Else-not-agrees, few)
+    (c.decide.ensures (table_in c.args.neighbors) formed.1.table.formed
+    ∙ (λ z. decided_on (rows_of (c.routes_seen.ensures z)) (c.records_seen.ensures z) (neighbor.rows_of (table_in c.args.neighbors)) c.args.header c.args.mode c.args.policy c.args.store.now))

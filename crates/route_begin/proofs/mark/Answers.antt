@@ -1,43 +1,36 @@
 -- The place is that of the destination, and so is the place of the route that is put there, which has another status only.
 -- Assumes nothing.
 use Prim.Native.Nat.{ℕ, ◌≤◌}
-use mathlib.Core.Path.{sym, ap, ◌∙◌, subst}
-use lib.ListN.{take}
-use Rattle.flat_map.specs.Seek.{place_of}
+use mathlib.Core.Path.{◌≡◌, sym, ap, ◌∙◌, subst}
+use Rattle.standard.specs.declared.RouteEntry.{RouteEntry}
 use Rattle.standard.specs.declared.Status.TheVariants.{DiscoveryUnderway}
-use Rattle.standard.specs.Ordered.{count_with}
-use Rattle.standard.specs.Route.{route_key, with_status}
-use Rattle.route_table.specs.Table.{in_columns, rows_of}
-use Rattle.route_begin.proofs.Rules.{marked-key, holds-marked}
+use Rattle.standard.specs.Ordered.{put, count_with}
+use Rattle.standard.specs.Route.{route_key, route_or, with_status}
+use Rattle.route_table.specs.Lent.{table, routes_of, place_in}
+use Rattle.route_table.specs.Table.{RouteTable, rows_of}
+use Rattle.route_begin.proofs.Rules.{marked-key}
 use Rattle.route_begin.proofs.mark.Goals as goal
+use Rattle.route_begin.proofs.mark.Goals.{After-with_status}
 
-pub place_of-place-requires : goal.place_of-place-requires
-place_of-place-requires c = c.requires.0
+marked-is : (c : After-with_status) → let a = c.args in c.with_status.result ≡ with_status DiscoveryUnderway (route_or a.destination (routes_of a.routes.now))
+marked-is c =
+    let a = c.args in
+    c.with_status.ensures ∙ ap (with_status DiscoveryUnderway) (c.route_or-e.ensures ∙ ap (λ (t : RouteTable). route_or a.destination (rows_of t)) c.seen-2.ensures)
 
 pub route_or-e-requires : goal.route_or-e-requires
-route_or-e-requires c = (c.requires.0, c.place_of-place.ensures)
+route_or-e-requires c = c.place_of-place.ensures ∙ ap (λ (t : RouteTable). place_in t c.args.destination.0) (c.seen.ensures ∙ sym c.seen-2.ensures)
 
 pub put_at-requires : goal.put_at-requires
 put_at-requires c =
     let a = c.args in
-    let xs = rows_of (in_columns a.route_keys.now a.route_words.now a.route_usage.now a.routes) in
-    let key = ap route_key (c.with_status.ensures ∙ ap (with_status DiscoveryUnderway) c.route_or-e.ensures) ∙ marked-key a.destination xs in (
-      c.requires.0,
-      c.place_of-place.ensures ∙ sym (ap (place_of (take a.routes a.route_keys.now)) key),
-      subst (λ (k : ℕ). count_with route_key k xs ≤ 64) (sym key) c.requires.1,
+    let xs = routes_of a.routes.now in
+    let key = ap route_key (marked-is (goal.at.put_at-requires c).After-with_status) ∙ marked-key a.destination xs in (
+      c.place_of-place.ensures ∙ ap (λ (t : RouteTable). place_in t a.destination.0) c.seen.ensures ∙ sym (ap (place_in (table a.routes.now)) key),
+      subst (λ (k : ℕ). count_with route_key k xs ≤ 64) (sym key) c.requires,
     )
-
-pub shape_of-route_keys : goal.shape_of-route_keys
-shape_of-route_keys c = c.put_at.ensures.formed.ordered.long.0 ∙ sym c.requires.0.ordered.long.0
-
-pub shape_of-route_words : goal.shape_of-route_words
-shape_of-route_words c = c.put_at.ensures.formed.ordered.long.1.0 ∙ sym c.requires.0.ordered.long.1.0
-
-pub shape_of-route_usage : goal.shape_of-route_usage
-shape_of-route_usage c = c.put_at.ensures.formed.ordered.long.1.1.0 ∙ sym c.requires.0.ordered.long.1.1.0
 
 pub returns : goal.returns
 returns c =
     let a = c.args in
-    let xs = rows_of (in_columns a.route_keys.now a.route_words.now a.route_usage.now a.routes) in
-    holds-marked a.destination xs _ _ (c.with_status.ensures ∙ ap (with_status DiscoveryUnderway) c.route_or-e.ensures) c.put_at.ensures
+    let xs = routes_of a.routes.now in
+    record { same = c.put_at.ensures.same; routes = c.put_at.ensures.routes ∙ ap (λ (e : RouteEntry). put route_key e xs) (marked-is (goal.at.returns c).After-with_status) }

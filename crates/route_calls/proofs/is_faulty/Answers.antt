@@ -12,9 +12,6 @@ pub returns-then-not-is_underway : goal.returns-then-not-is_underway
 returns-then-not-is_underway c =
     simp (sym c.lacks_hop.ensures ∙ c.if-lacks_hop.false, sym c.is_underway.ensures ∙ not-true _ c.if-not-is_underway.true-raw)
 
-pub names-requires : goal.names-requires
-names-requires c = c.requires
-
 pub returns : goal.returns
 returns c =
     simp (sym c.lacks_hop.ensures ∙ c.if-lacks_hop.false, sym c.is_underway.ensures ∙ not-false _ c.if-not-is_underway.false-raw)

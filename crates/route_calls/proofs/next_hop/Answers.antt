@@ -6,7 +6,7 @@ use Rattle.standard.specs.declared.RouteEntry.{RouteEntry}
 use Rattle.standard.specs.Calls.{active_hop, hop_at}
 use Rattle.standard.specs.Ordered.{lookup}
 use Rattle.standard.specs.Route.{route_key}
-use Rattle.route_table.specs.Table.{in_columns, rows_of}
+use Rattle.route_table.specs.Lent.{seen_routes}
 use Rattle.route_table.proofs.Rows.{looked-found, looked-missing}
 use Rattle.route_calls.specs.Answer.{hop_answer}
 use Rattle.route_calls.proofs.next_hop.Goals as goal
@@ -15,12 +15,10 @@ pub returns-in_default : goal.returns-in_default
 unfolding hop_at
 returns-in_default c =
     let a = c.args in
-    let t = in_columns a.route_keys.now a.route_words.now a.route_usage.now a.routes in
-    sym (ap (λ (o : Option RouteEntry). hop_answer (active_hop o)) (looked-missing (lookup route_key a.destination.0 (rows_of t)) (sym c.in_default.is ∙ c.find.ensures)))
+    sym (ap (λ (o : Option RouteEntry). hop_answer (active_hop o)) (looked-missing (lookup route_key a.destination.0 (seen_routes a.routes.now)) (sym c.in_default.is ∙ c.find.ensures)))
 
 pub returns : goal.returns
 unfolding hop_at
 returns c =
     let a = c.args in
-    let t = in_columns a.route_keys.now a.route_words.now a.route_usage.now a.routes in
-    c.hop_of.ensures ∙ sym (ap (λ (o : Option RouteEntry). hop_answer (active_hop o)) (looked-found (lookup route_key a.destination.0 (rows_of t)) _ (sym c.in-Some.is ∙ c.find.ensures)))
+    c.hop_of.ensures ∙ sym (ap (λ (o : Option RouteEntry). hop_answer (active_hop o)) (looked-found (lookup route_key a.destination.0 (seen_routes a.routes.now)) _ (sym c.in-Some.is ∙ c.find.ensures)))

@@ -5,7 +5,8 @@ use mathlib.Core.Path.{refl, sym, ◌∙◌}
 use borrow.Author.Tests.{not-true, not-false, leb-true}
 use Rattle.standard.specs.Ordered.{put}
 use Rattle.standard.specs.Route.{route_key}
-use Rattle.route_table.specs.Table.{in_columns, rows_of}
+use Rattle.route_table.specs.Lent.{table, routes_of}
+use Rattle.route_table.proofs.Lent.{formed}
 use Rattle.route_table.proofs.Rows.{table-fit}
 use Rattle.route_calls.proofs.Rules.{step_by, put-room, place-room}
 use Rattle.route_calls.proofs.store.Goals as goal
@@ -13,21 +14,23 @@ use Rattle.route_calls.proofs.store.Goals as goal
 pub returns-then-not-has_room : goal.returns-then-not-has_room
 returns-then-not-has_room c =
     let a = c.args in
-    let t = in_columns a.route_keys.now a.route_words.now a.route_usage.now a.routes in
-    let refused = step_by (rows_of t) (put route_key a.e (rows_of t)) false
-    (put-room (rows_of t) (table-fit t c.requires.0).fit.ascending a.e ∙ place-room t c.requires.0 (route_key a.e) a.place c.requires.1 ∙ sym c.has_room.ensures ∙ not-true _ c.if-not-has_room.true-raw) in
-    rw refused (record { said = refl; left = record { formed = c.requires.0; rows = refl } })
+    let r = a.routes.now in
+    let xs = routes_of r in
+    let refused = step_by xs (put route_key a.e xs) false
+    (put-room xs (table-fit (table r) (formed r)).fit.ascending a.e ∙ place-room (table r) (formed r) (route_key a.e) a.place c.requires ∙ sym c.has_room.ensures ∙ not-true _ c.if-not-has_room.true-raw) in
+    rw refused (record { said = refl; left = record { same = record { keys = refl; words = refl; usage = refl }; routes = refl } })
 
-pub put_at-n-requires : goal.put_at-n-requires
-put_at-n-requires c =
+pub put_at-requires : goal.put_at-requires
+put_at-requires c =
     let a = c.args in
-    let t = in_columns a.route_keys.now a.route_words.now a.route_usage.now a.routes in
-    (c.requires.0, c.requires.1, leb-true _ 64 (place-room t c.requires.0 (route_key a.e) a.place c.requires.1 ∙ sym c.has_room.ensures ∙ not-false _ c.if-not-has_room.false-raw))
+    let r = a.routes.now in
+    (c.requires, leb-true _ 64 (place-room (table r) (formed r) (route_key a.e) a.place c.requires ∙ sym c.has_room.ensures ∙ not-false _ c.if-not-has_room.false-raw))
 
 pub returns : goal.returns
 returns c =
     let a = c.args in
-    let t = in_columns a.route_keys.now a.route_words.now a.route_usage.now a.routes in
-    let done = step_by (rows_of t) (put route_key a.e (rows_of t)) true
-    (put-room (rows_of t) (table-fit t c.requires.0).fit.ascending a.e ∙ place-room t c.requires.0 (route_key a.e) a.place c.requires.1 ∙ sym c.has_room.ensures ∙ not-false _ c.if-not-has_room.false-raw) in
-    rw done (record { said = refl; left = c.put_at-n.ensures })
+    let r = a.routes.now in
+    let xs = routes_of r in
+    let done = step_by xs (put route_key a.e xs) true
+    (put-room xs (table-fit (table r) (formed r)).fit.ascending a.e ∙ place-room (table r) (formed r) (route_key a.e) a.place c.requires ∙ sym c.has_room.ensures ∙ not-false _ c.if-not-has_room.false-raw) in
+    rw done (record { said = refl; left = c.put_at.ensures })

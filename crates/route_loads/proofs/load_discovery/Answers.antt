@@ -7,7 +7,9 @@ use lib.ListN.{length}
 use borrow.Author.Tests.{not-true, not-false, leb-true}
 use Rattle.standard.specs.Ordered.{count_with}
 use Rattle.standard.specs.Discovery.{discovery_key}
-use Rattle.discovery_table.specs.Table.{WellFormed, well_formed, rows_of}
+use Rattle.discovery_table.specs.Table.{DiscoveryTable, well_formed, rows_of}
+use Rattle.discovery_table.specs.Lent.{place_in}
+use Rattle.discovery_table.proofs.Lent.{holds}
 use Rattle.discovery_table.proofs.Rows.{well-formed-told}
 use Rattle.route_loads.proofs.Room.{discovery-room, held-discoveries}
 use Rattle.routing.specs.State.{discovery_table}
@@ -22,11 +24,8 @@ long c = (search rules, search rules, search rules)
 good : (c : Else-not-well_formed) → well_formed (discovery_table c.args.s) ≡ true
 good c = sym c.well_formed-2.ensures ∙ not-false _ c.if-not-well_formed.false-raw
 
-formed : (c : Else-not-well_formed) → WellFormed (discovery_table c.args.s)
-formed c = (well-formed-told (discovery_table c.args.s)).fact (good c)
-
 room : (c : After-has_room) → leb (count_with discovery_key (discovery_key c.args.e) (rows_of (discovery_table c.args.s))) 32 ≡ c.has_room.result
-room c = discovery-room (discovery_table c.args.s) ((well-formed-told (discovery_table c.args.s)).fact (sym c.well_formed-2.ensures ∙ not-false _ c.if-not-well_formed.false-raw)) (discovery_key c.args.e) c.place_of-place.result c.place_of-place.ensures ∙ sym c.has_room.ensures
+room c = discovery-room (discovery_table c.args.s) ((well-formed-told (discovery_table c.args.s)).fact (sym c.well_formed-2.ensures ∙ not-false _ c.if-not-well_formed.false-raw)) (discovery_key c.args.e) c.place_of-place.result (c.place_of-place.ensures ∙ ap (λ (t : DiscoveryTable). place_in t (discovery_key c.args.e)) c.seen.ensures) ∙ sym c.has_room.ensures
 
 pub slice_bounds-well_formed-end : goal.slice_bounds-well_formed-end
 slice_bounds-well_formed-end c = sym (long (goal.at.slice_bounds-well_formed-end c).Start).0
@@ -41,36 +40,18 @@ pub returns-then-not-well_formed : goal.returns-then-not-well_formed
 unfolding discovery_put
 returns-then-not-well_formed c = rw (sym c.well_formed-2.ensures ∙ not-true _ c.if-not-well_formed.true-raw) c.no_call.ensures
 
-pub slice_bounds-place_of-end : goal.slice_bounds-place_of-end
-slice_bounds-place_of-end c = sym (long (goal.at.slice_bounds-place_of-end c).Start).0
-
-pub slice_bounds-place_of-end-2 : goal.slice_bounds-place_of-end-2
-slice_bounds-place_of-end-2 c = sym (long (goal.at.slice_bounds-place_of-end-2 c).Start).1
-
-pub slice_bounds-place_of-end-3 : goal.slice_bounds-place_of-end-3
-slice_bounds-place_of-end-3 c = sym (long (goal.at.slice_bounds-place_of-end-3 c).Start).2
-
-pub place_of-place-requires : goal.place_of-place-requires
-place_of-place-requires c = formed (goal.at.place_of-place-requires c).Else-not-well_formed
-
 pub returns-then-not-has_room : goal.returns-then-not-has_room
 unfolding discovery_put
 returns-then-not-has_room c = rw (good (goal.at.returns-then-not-has_room c).Else-not-well_formed, room (goal.at.returns-then-not-has_room c).After-has_room ∙ not-true _ c.if-not-has_room.true-raw) c.no_call-then-not-has_room.ensures
 
-pub slice_bounds-put_at-end : goal.slice_bounds-put_at-end
-slice_bounds-put_at-end c = sym (long (goal.at.slice_bounds-put_at-end c).Start).0
+pub invariant_of-discoveries : goal.invariant_of-discoveries
+invariant_of-discoveries c = record { formed = good (goal.at.invariant_of-discoveries c).Else-not-well_formed }
 
-pub slice_bounds-put_at-end-2 : goal.slice_bounds-put_at-end-2
-slice_bounds-put_at-end-2 c = sym (long (goal.at.slice_bounds-put_at-end-2 c).Start).1
-
-pub slice_bounds-put_at-end-3 : goal.slice_bounds-put_at-end-3
-slice_bounds-put_at-end-3 c = sym (long (goal.at.slice_bounds-put_at-end-3 c).Start).2
-
-pub put_at-n-requires : goal.put_at-n-requires
-put_at-n-requires c = (formed (goal.at.put_at-n-requires c).Else-not-well_formed, c.place_of-place.ensures, leb-true _ 32 (room (goal.at.put_at-n-requires c).After-has_room ∙ not-false _ c.if-not-has_room.false-raw))
+pub put_at-requires : goal.put_at-requires
+put_at-requires c = (c.place_of-place.ensures ∙ ap (λ (t : DiscoveryTable). place_in t (discovery_key c.args.e)) c.seen.ensures, leb-true _ 32 (room (goal.at.put_at-requires c).After-has_room ∙ not-false _ c.if-not-has_room.false-raw))
 
 pub returns : goal.returns
 unfolding discovery_put
 returns c =
     rw (good (goal.at.returns c).Else-not-well_formed, room (goal.at.returns c).After-has_room ∙ not-false _ c.if-not-has_room.false-raw)
-    (c.load.ensures ∙ ap (λ x. loaded x) (held-discoveries c.args.s _ _ c.put_at-n.ensures))
+    (c.load.ensures ∙ ap (λ x. loaded x) (held-discoveries c.args.s _ _ (holds c.put_at.new.self _ c.put_at.ensures.discoveries)))

@@ -7,7 +7,9 @@ use lib.ListN.{length}
 use borrow.Author.Tests.{not-true, not-false, leb-true}
 use Rattle.standard.specs.Ordered.{count_with}
 use Rattle.standard.specs.Route.{route_key}
-use Rattle.route_table.specs.Table.{WellFormed, well_formed, rows_of}
+use Rattle.route_table.specs.Table.{RouteTable, well_formed, rows_of}
+use Rattle.route_table.specs.Lent.{place_in}
+use Rattle.route_table.proofs.Lent.{holds}
 use Rattle.route_table.proofs.Rows.{well-formed-told}
 use Rattle.route_calls.proofs.Rules.{place-room}
 use Rattle.routing.specs.State.{route_table}
@@ -23,11 +25,8 @@ long c = (search rules, search rules, search rules)
 good : (c : Else-not-well_formed) → well_formed (route_table c.args.s) ≡ true
 good c = sym c.well_formed-2.ensures ∙ not-false _ c.if-not-well_formed.false-raw
 
-formed : (c : Else-not-well_formed) → WellFormed (route_table c.args.s)
-formed c = (well-formed-told (route_table c.args.s)).fact (good c)
-
 room : (c : After-has_room) → leb (count_with route_key (route_key c.args.e) (rows_of (route_table c.args.s))) 64 ≡ c.has_room.result
-room c = place-room (route_table c.args.s) ((well-formed-told (route_table c.args.s)).fact (sym c.well_formed-2.ensures ∙ not-false _ c.if-not-well_formed.false-raw)) (route_key c.args.e) c.place_of-place.result c.place_of-place.ensures ∙ sym c.has_room.ensures
+room c = place-room (route_table c.args.s) ((well-formed-told (route_table c.args.s)).fact (sym c.well_formed-2.ensures ∙ not-false _ c.if-not-well_formed.false-raw)) (route_key c.args.e) c.place_of-place.result (c.place_of-place.ensures ∙ ap (λ (t : RouteTable). place_in t (route_key c.args.e)) c.seen.ensures) ∙ sym c.has_room.ensures
 
 pub slice_bounds-well_formed-end : goal.slice_bounds-well_formed-end
 slice_bounds-well_formed-end c = sym (long (goal.at.slice_bounds-well_formed-end c).Start).0
@@ -42,36 +41,18 @@ pub returns-then-not-well_formed : goal.returns-then-not-well_formed
 unfolding route_put
 returns-then-not-well_formed c = rw (sym c.well_formed-2.ensures ∙ not-true _ c.if-not-well_formed.true-raw) c.no_call.ensures
 
-pub slice_bounds-place_of-end : goal.slice_bounds-place_of-end
-slice_bounds-place_of-end c = sym (long (goal.at.slice_bounds-place_of-end c).Start).0
-
-pub slice_bounds-place_of-end-2 : goal.slice_bounds-place_of-end-2
-slice_bounds-place_of-end-2 c = sym (long (goal.at.slice_bounds-place_of-end-2 c).Start).1
-
-pub slice_bounds-place_of-end-3 : goal.slice_bounds-place_of-end-3
-slice_bounds-place_of-end-3 c = sym (long (goal.at.slice_bounds-place_of-end-3 c).Start).2
-
-pub place_of-place-requires : goal.place_of-place-requires
-place_of-place-requires c = formed (goal.at.place_of-place-requires c).Else-not-well_formed
-
 pub returns-then-not-has_room : goal.returns-then-not-has_room
 unfolding route_put
 returns-then-not-has_room c = rw (good (goal.at.returns-then-not-has_room c).Else-not-well_formed, room (goal.at.returns-then-not-has_room c).After-has_room ∙ not-true _ c.if-not-has_room.true-raw) c.no_call-then-not-has_room.ensures
 
-pub slice_bounds-put_at-end : goal.slice_bounds-put_at-end
-slice_bounds-put_at-end c = sym (long (goal.at.slice_bounds-put_at-end c).Start).0
+pub invariant_of-routes : goal.invariant_of-routes
+invariant_of-routes c = record { formed = good (goal.at.invariant_of-routes c).Else-not-well_formed }
 
-pub slice_bounds-put_at-end-2 : goal.slice_bounds-put_at-end-2
-slice_bounds-put_at-end-2 c = sym (long (goal.at.slice_bounds-put_at-end-2 c).Start).1
-
-pub slice_bounds-put_at-end-3 : goal.slice_bounds-put_at-end-3
-slice_bounds-put_at-end-3 c = sym (long (goal.at.slice_bounds-put_at-end-3 c).Start).2
-
-pub put_at-n-requires : goal.put_at-n-requires
-put_at-n-requires c = (formed (goal.at.put_at-n-requires c).Else-not-well_formed, c.place_of-place.ensures, leb-true _ 64 (room (goal.at.put_at-n-requires c).After-has_room ∙ not-false _ c.if-not-has_room.false-raw))
+pub put_at-requires : goal.put_at-requires
+put_at-requires c = (c.place_of-place.ensures ∙ ap (λ (t : RouteTable). place_in t (route_key c.args.e)) c.seen.ensures, leb-true _ 64 (room (goal.at.put_at-requires c).After-has_room ∙ not-false _ c.if-not-has_room.false-raw))
 
 pub returns : goal.returns
 unfolding route_put
 returns c =
     rw (good (goal.at.returns c).Else-not-well_formed, room (goal.at.returns c).After-has_room ∙ not-false _ c.if-not-has_room.false-raw)
-    (c.load.ensures ∙ ap (λ x. loaded x) (held-routes c.args.s _ _ c.put_at-n.ensures))
+    (c.load.ensures ∙ ap (λ x. loaded x) (held-routes c.args.s _ _ (holds c.put_at.new.self _ c.put_at.ensures.routes)))

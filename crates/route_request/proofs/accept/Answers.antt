@@ -1,96 +1,55 @@
 -- Room in the routes and then in the discoveries, as expiry would leave them, decides refusal or answer;
 -- with both, the expiry leaves tables that have it, and what is stored there is the rule's.
-use mathlib.Core.Path.{refl, sym, ◌∙◌, subst}
+use mathlib.Core.Path.{sym, subst}
 use borrow.Author.Tests.{not-true, not-false}
 use Rattle.types.specs.declared.Refusal.TheVariants.{RouteTableFull, DiscoveryTableFull}
-use Rattle.search_tables.specs.Packed.{in_columns}
+use Rattle.standard.specs.Discovery.{pair_key}
+use Rattle.search_tables.specs.Lent.{lent}
+use Rattle.search_tables.proofs.Lent.{formed, unmoved, memory-on}
+use Rattle.expiry.proofs.Asked.{asked-route, asked-discovery}
 use Rattle.route_request.specs.Answer.{Room}
 use Rattle.route_request.proofs.Rules.{leaves-refused, full-routes, full-discoveries, has_room, leaves-stored}
 use Rattle.route_request.proofs.accept.Goals as goal
 
-pub route_room-requires : goal.route_room-requires
-route_room-requires c = c.requires.0
-
-pub shape_of-route_keys-then-not-route_room : goal.shape_of-route_keys-then-not-route_room
-shape_of-route_keys-then-not-route_room c = refl
-
-pub shape_of-route_words-then-not-route_room : goal.shape_of-route_words-then-not-route_room
-shape_of-route_words-then-not-route_room c = refl
-
-pub shape_of-route_usage-then-not-route_room : goal.shape_of-route_usage-then-not-route_room
-shape_of-route_usage-then-not-route_room c = refl
-
-pub shape_of-discovery_keys-then-not-route_room : goal.shape_of-discovery_keys-then-not-route_room
-shape_of-discovery_keys-then-not-route_room c = refl
-
-pub shape_of-discovery_words-then-not-route_room : goal.shape_of-discovery_words-then-not-route_room
-shape_of-discovery_words-then-not-route_room c = refl
-
-pub shape_of-discovery_ends-then-not-route_room : goal.shape_of-discovery_ends-then-not-route_room
-shape_of-discovery_ends-then-not-route_room c = refl
-
 pub returns-then-not-route_room : goal.returns-then-not-route_room
 returns-then-not-route_room c =
     let a = c.args in
-    let t = in_columns a.route_keys.now a.route_words.now a.route_usage.now a.routes a.discovery_keys.now a.discovery_words.now a.discovery_ends.now a.discoveries in
-    leaves-refused t c.requires.0 RouteTableFull _ c.refuse.ensures _ (full-routes a.originator a.sender a.cost a.many_to_one a.id a.d c.requires.1 a.now_ms t c.requires.0 (sym c.route_room.ensures ∙ not-true _ c.if-not-route_room.true-raw))
-
-pub discovery_room-requires : goal.discovery_room-requires
-discovery_room-requires c = c.requires.0.discoveries
-
-pub shape_of-route_keys-then-not-discovery_room : goal.shape_of-route_keys-then-not-discovery_room
-shape_of-route_keys-then-not-discovery_room c = refl
-
-pub shape_of-route_words-then-not-discovery_room : goal.shape_of-route_words-then-not-discovery_room
-shape_of-route_words-then-not-discovery_room c = refl
-
-pub shape_of-route_usage-then-not-discovery_room : goal.shape_of-route_usage-then-not-discovery_room
-shape_of-route_usage-then-not-discovery_room c = refl
-
-pub shape_of-discovery_keys-then-not-discovery_room : goal.shape_of-discovery_keys-then-not-discovery_room
-shape_of-discovery_keys-then-not-discovery_room c = refl
-
-pub shape_of-discovery_words-then-not-discovery_room : goal.shape_of-discovery_words-then-not-discovery_room
-shape_of-discovery_words-then-not-discovery_room c = refl
-
-pub shape_of-discovery_ends-then-not-discovery_room : goal.shape_of-discovery_ends-then-not-discovery_room
-shape_of-discovery_ends-then-not-discovery_room c = refl
+    let r = a.routes.now in
+    let d = a.discoveries.now in
+    let t = lent r d in
+    record {
+      memory = unmoved r d;
+      left = leaves-refused t (formed r d) RouteTableFull _ (full-routes a.originator a.sender a.cost a.many_to_one a.id a.d c.requires a.now_ms t (formed r d) (asked-route a.now_ms a.originator.0 c.seen.result c.seen-2.result t c.seen.ensures c.seen-2.ensures _ _ c.route_room.ensures (not-true _ c.if-not-route_room.true-raw)));
+    }
 
 pub returns-then-not-discovery_room : goal.returns-then-not-discovery_room
 returns-then-not-discovery_room c =
     let a = c.args in
-    let t = in_columns a.route_keys.now a.route_words.now a.route_usage.now a.routes a.discovery_keys.now a.discovery_words.now a.discovery_ends.now a.discoveries in
-    leaves-refused t c.requires.0 DiscoveryTableFull _ c.refuse-then-not-discovery_room.ensures _ (full-discoveries a.originator a.sender a.cost a.many_to_one a.id a.d c.requires.1 a.now_ms t c.requires.0 (sym c.route_room.ensures ∙ not-false _ c.if-not-route_room.false-raw) (sym c.discovery_room.ensures ∙ not-true _ c.if-not-discovery_room.true-raw))
-
-pub expire-left-requires : goal.expire-left-requires
-expire-left-requires c = c.requires.0
+    let r = a.routes.now in
+    let d = a.discoveries.now in
+    let t = lent r d in
+    record {
+      memory = unmoved r d;
+      left = leaves-refused t (formed r d) DiscoveryTableFull _ (full-discoveries a.originator a.sender a.cost a.many_to_one a.id a.d c.requires a.now_ms t (formed r d) (asked-route a.now_ms a.originator.0 c.seen.result c.seen-2.result t c.seen.ensures c.seen-2.ensures _ _ c.route_room.ensures (not-false _ c.if-not-route_room.false-raw)) (asked-discovery a.now_ms (pair_key a.originator a.id) c.seen-3.result t.discoveries c.seen-3.ensures _ _ c.discovery_room.ensures (not-true _ c.if-not-discovery_room.true-raw)));
+    }
 
 pub store-requires : goal.store-requires
 store-requires c =
     let a = c.args in
-    let t = in_columns a.route_keys.now a.route_words.now a.route_usage.now a.routes a.discovery_keys.now a.discovery_words.now a.discovery_ends.now a.discoveries in
-    (c.expire-left.ensures.formed, c.requires.1, subst (Room a.originator a.id) (sym c.expire-left.ensures.rows) (has_room a.originator a.sender a.cost a.many_to_one a.id a.d c.requires.1 a.now_ms t c.requires.0 (sym c.route_room.ensures ∙ not-false _ c.if-not-route_room.false-raw) (sym c.discovery_room.ensures ∙ not-false _ c.if-not-discovery_room.false-raw)))
-
-pub shape_of-route_keys : goal.shape_of-route_keys
-shape_of-route_keys c = c.store.ensures.left.formed.routes.ordered.long.0 ∙ sym c.requires.0.routes.ordered.long.0
-
-pub shape_of-route_words : goal.shape_of-route_words
-shape_of-route_words c = c.store.ensures.left.formed.routes.ordered.long.1.0 ∙ sym c.requires.0.routes.ordered.long.1.0
-
-pub shape_of-route_usage : goal.shape_of-route_usage
-shape_of-route_usage c = c.store.ensures.left.formed.routes.ordered.long.1.1.0 ∙ sym c.requires.0.routes.ordered.long.1.1.0
-
-pub shape_of-discovery_keys : goal.shape_of-discovery_keys
-shape_of-discovery_keys c = c.store.ensures.left.formed.discoveries.ordered.long.0 ∙ sym c.requires.0.discoveries.ordered.long.0
-
-pub shape_of-discovery_words : goal.shape_of-discovery_words
-shape_of-discovery_words c = c.store.ensures.left.formed.discoveries.ordered.long.1.0 ∙ sym c.requires.0.discoveries.ordered.long.1.0
-
-pub shape_of-discovery_ends : goal.shape_of-discovery_ends
-shape_of-discovery_ends c = c.store.ensures.left.formed.discoveries.ordered.long.1.1.0 ∙ sym c.requires.0.discoveries.ordered.long.1.1.0
+    let r = a.routes.now in
+    let d = a.discoveries.now in
+    let t = lent r d in
+    (c.requires, subst (Room a.originator a.id) (sym c.expire.ensures.left.rows) (has_room a.originator a.sender a.cost a.many_to_one a.id a.d c.requires a.now_ms t (formed r d) (asked-route a.now_ms a.originator.0 c.seen.result c.seen-2.result t c.seen.ensures c.seen-2.ensures _ _ c.route_room.ensures (not-false _ c.if-not-route_room.false-raw)) (asked-discovery a.now_ms (pair_key a.originator a.id) c.seen-3.result t.discoveries c.seen-3.ensures _ _ c.discovery_room.ensures (not-false _ c.if-not-discovery_room.false-raw))))
 
 pub returns : goal.returns
 returns c =
     let a = c.args in
-    let t = in_columns a.route_keys.now a.route_words.now a.route_usage.now a.routes a.discovery_keys.now a.discovery_words.now a.discovery_ends.now a.discoveries in
-    leaves-stored a.originator a.sender a.cost a.many_to_one a.id a.d c.requires.1 a.now_ms t c.requires.0 _ c.expire-left.ensures (has_room a.originator a.sender a.cost a.many_to_one a.id a.d c.requires.1 a.now_ms t c.requires.0 (sym c.route_room.ensures ∙ not-false _ c.if-not-route_room.false-raw) (sym c.discovery_room.ensures ∙ not-false _ c.if-not-discovery_room.false-raw)) _ _ c.store.ensures
+    let r = a.routes.now in
+    let d = a.discoveries.now in
+    let t = lent r d in
+    record {
+      memory = memory-on _ _ _ _ _ _ c.expire.ensures.memory c.store.ensures.memory;
+      left =
+          leaves-stored a.originator a.sender a.cost a.many_to_one a.id a.d c.requires a.now_ms t (formed r d) _ c.expire.ensures.left
+          (has_room a.originator a.sender a.cost a.many_to_one a.id a.d c.requires a.now_ms t (formed r d) (asked-route a.now_ms a.originator.0 c.seen.result c.seen-2.result t c.seen.ensures c.seen-2.ensures _ _ c.route_room.ensures (not-false _ c.if-not-route_room.false-raw)) (asked-discovery a.now_ms (pair_key a.originator a.id) c.seen-3.result t.discoveries c.seen-3.ensures _ _ c.discovery_room.ensures (not-false _ c.if-not-discovery_room.false-raw))) _ _ c.store.ensures.left;
+    }

@@ -2,29 +2,30 @@
 -- Assumes nothing.
 use Rattle.std.specs.Prelude.{Option, unwrap_or}
 use mathlib.Core.Path.{sym, ap, ◌∙◌}
+use native.Mathlib.Omega.{arith}
 use Rattle.standard.specs.declared.RouteEntry.{RouteEntry}
 use Rattle.standard.specs.declared.Status.TheVariants.{Inactive}
 use Rattle.standard.specs.Route.{new_route, unknown_hop}
-use Rattle.route_table.specs.Table.{in_columns}
+use Rattle.route_table.specs.Lent.{seen_table}
+use Rattle.route_table.proofs.Lent.{seen-formed}
 use Rattle.route_table.proofs.Rows as routes
 use Rattle.search_tables.proofs.route_or.Goals as goal
 
 pub entry_at-requires : goal.entry_at-requires
 entry_at-requires c =
-    let a = c.args in
-    let t = in_columns a.keys.now a.words.now a.usage.now a.count in
-    routes.in-columns t c.requires.0 _ (routes.place-within t c.requires.0 _ _ (sym c.in-Ok.is ∙ c.requires.1))
+    let r = c.args.routes.now in
+    omega (arith, routes.place-within (seen_table r) (seen-formed r) _ _ (sym c.in-Ok.is ∙ c.requires), (seen-formed r).ordered.small)
 
 pub returns-in-Ok : goal.returns-in-Ok
 returns-in-Ok c =
     let a = c.args in
-    let t = in_columns a.keys.now a.words.now a.usage.now a.count in
+    let r = a.routes.now in
     c.entry_at.ensures
-    ∙ sym (ap (λ (o : Option RouteEntry). unwrap_or o (new_route a.destination Inactive unknown_hop)) (routes.found-row t c.requires.0 _ _ (sym c.in-Ok.is ∙ c.requires.1)))
+    ∙ sym (ap (λ (o : Option RouteEntry). unwrap_or o (new_route a.destination Inactive unknown_hop)) (routes.found-row (seen_table r) (seen-formed r) _ _ (sym c.in-Ok.is ∙ c.requires)))
 
 pub returns-in-Err : goal.returns-in-Err
 returns-in-Err c =
     let a = c.args in
-    let t = in_columns a.keys.now a.words.now a.usage.now a.count in
+    let r = a.routes.now in
     c.new_route.ensures
-    ∙ sym (ap (λ (o : Option RouteEntry). unwrap_or o (new_route a.destination Inactive unknown_hop)) (routes.missing-row t c.requires.0 _ _ (sym c.in-Err.is ∙ c.requires.1)))
+    ∙ sym (ap (λ (o : Option RouteEntry). unwrap_or o (new_route a.destination Inactive unknown_hop)) (routes.missing-row (seen_table r) (seen-formed r) _ _ (sym c.in-Err.is ∙ c.requires)))

@@ -2,8 +2,11 @@
 use native.Mathlib.Omega.{arith}
 use mathlib.Core.Path.{refl}
 use borrow.Author.Tests.{not-true, not-false}
+use Rattle.std.proofs.Common.{rules}
+use Rattle.route_table.proofs.Lent as routes-lent
+use Rattle.discovery_table.proofs.Lent as discoveries-lent
+use Rattle.search_tables.proofs.Lent.{given-back, holds-back}
 use Rattle.routing.specs.Search.{accept_route_request}
-use Rattle.routing.proofs.State.{search-formed}
 use Rattle.routing.specs.State.{well_formed}
 use Rattle.door.proofs.Lent.{test_of, formed-in, says-as, search-left, ill-made, rule-made}
 use Rattle.door_search.proofs.request.warpteasel_raw_accept_route_request.Goals as goal
@@ -15,9 +18,15 @@ pub returns-then-not-columns_formed : goal.returns-then-not-columns_formed
 unfolding accept_route_request
 returns-then-not-columns_formed c = record { call = λ _. ill-made well_formed _ _ (test_of _ _ _ (λ _. c.columns_formed.ensures) (not-true _ c.if-not-columns_formed.true-raw)) (λ _. refl) (λ _. record { status = refl; places = refl }); none = λ h. absurd (omega (arith, c.if-many_to_one-gt3.false)) }
 
-pub request-x-requires : goal.request-x-requires
-request-x-requires c = search-formed _ (formed-in _ _ _ _ c.columns_formed.ensures (not-false _ c.if-not-columns_formed.false-raw))
+pub invariant_of-held : goal.invariant_of-held
+invariant_of-held c = record { formed = routes-lent.told _ (formed-in _ _ _ _ c.columns_formed.ensures (not-false _ c.if-not-columns_formed.false-raw)).routes }
+
+pub invariant_of-open : goal.invariant_of-open
+invariant_of-open c = record { formed = discoveries-lent.told _ (formed-in _ _ _ _ c.columns_formed.ensures (not-false _ c.if-not-columns_formed.false-raw)).discoveries }
 
 pub returns : goal.returns
 unfolding accept_route_request
-returns c = record { call = λ _. rule-made well_formed _ _ (test_of _ _ _ (λ _. c.columns_formed.ensures) (not-false _ c.if-not-columns_formed.false-raw)) (λ _. search-left _ _ _ _ _ _ (rw c.many_to_one-field.ensures at c.request-x.ensures.left)) (λ _. says-as (rw c.many_to_one-field.ensures at c.request-x.ensures.said) c.say_request.ensures); none = λ h. absurd (omega (arith, c.if-many_to_one-gt3.false)) }
+returns c =
+    let x = c.request-answer in
+    let now = holds-back _ _ (given-back x.new.routes x.new.discoveries _ _ _ _ _ _ (search rules) (search rules) (search rules) (search rules) (search rules) (search rules)) _ (rw c.many_to_one-field.ensures at x.ensures.left.left) in
+    record { call = λ _. rule-made well_formed _ _ (test_of _ _ _ (λ _. c.columns_formed.ensures) (not-false _ c.if-not-columns_formed.false-raw)) (λ _. search-left _ _ _ _ _ _ now) (λ _. says-as (rw c.many_to_one-field.ensures at x.ensures.left.said) c.say_request.ensures); none = λ h. absurd (omega (arith, c.if-many_to_one-gt3.false)) }

@@ -1,42 +1,26 @@
--- A state that is not well formed is refused as it is; in any other the columns that the rule leaves are put together again, and they are those of its rows.
+-- A state that is not well formed is refused as it is; in any other the columns that the rule leaves are those of its rows.
 use mathlib.Core.Path.{sym, ◌∙◌}
 use borrow.Author.Tests.{not-true, not-false}
-use Rattle.routing.proofs.State.{state-told, columns-told, search-formed, held_back}
+use Rattle.route_table.proofs.Lent as routes-lent
+use Rattle.discovery_table.proofs.Lent as discoveries-lent
+use Rattle.search_tables.specs.Lent.{lent}
 use Rattle.routing.specs.Search.{accept_route_request}
-use borrow.Author.Rules.{rules}
+use Rattle.routing.proofs.State.{state-told, held_back}
 use Rattle.routing.proofs.Routing.accept_route_request.Goals as goal
 
-pub slice_bounds-columns_formed-end-7 : goal.slice_bounds-columns_formed-end-7
-slice_bounds-columns_formed-end-7 c = search (rules, c.well_formed.0.1.1.1.1.1.1.1.1.1.1)
-
-pub slice_bounds-columns_formed-end-8 : goal.slice_bounds-columns_formed-end-8
-slice_bounds-columns_formed-end-8 c = search (rules, c.well_formed.0.1.1.1.1.1.1.1.1.1.1)
-
-pub returns-then-not-columns_formed : goal.returns-then-not-columns_formed
+pub returns-then-not-well_formed : goal.returns-then-not-well_formed
 unfolding accept_route_request
-returns-then-not-columns_formed c = rw (sym (columns-told c.args.self c.columns_formed.ensures) ∙ not-true _ c.if-not-columns_formed.true-raw)
+returns-then-not-well_formed c = rw (sym c.well_formed-2.ensures ∙ not-true _ c.if-not-well_formed.true-raw)
 
-pub slice_bounds-request-end : goal.slice_bounds-request-end
-slice_bounds-request-end c = sym ((state-told c.args.self).fact (sym (columns-told c.args.self c.columns_formed.ensures) ∙ not-false _ c.if-not-columns_formed.false-raw)).routes.ordered.long.0
+pub invariant_of-routes : goal.invariant_of-routes
+invariant_of-routes c = record { formed = routes-lent.told _ ((state-told _).fact (sym c.well_formed-2.ensures ∙ not-false _ c.if-not-well_formed.false-raw)).routes }
 
-pub slice_bounds-request-end-2 : goal.slice_bounds-request-end-2
-slice_bounds-request-end-2 c = sym ((state-told c.args.self).fact (sym (columns-told c.args.self c.columns_formed.ensures) ∙ not-false _ c.if-not-columns_formed.false-raw)).routes.ordered.long.1.0
-
-pub slice_bounds-request-end-3 : goal.slice_bounds-request-end-3
-slice_bounds-request-end-3 c = sym ((state-told c.args.self).fact (sym (columns-told c.args.self c.columns_formed.ensures) ∙ not-false _ c.if-not-columns_formed.false-raw)).routes.ordered.long.1.1.0
-
-pub slice_bounds-request-end-4 : goal.slice_bounds-request-end-4
-slice_bounds-request-end-4 c = sym ((state-told c.args.self).fact (sym (columns-told c.args.self c.columns_formed.ensures) ∙ not-false _ c.if-not-columns_formed.false-raw)).discoveries.ordered.long.0
-
-pub slice_bounds-request-end-5 : goal.slice_bounds-request-end-5
-slice_bounds-request-end-5 c = sym ((state-told c.args.self).fact (sym (columns-told c.args.self c.columns_formed.ensures) ∙ not-false _ c.if-not-columns_formed.false-raw)).discoveries.ordered.long.1.0
-
-pub slice_bounds-request-end-6 : goal.slice_bounds-request-end-6
-slice_bounds-request-end-6 c = sym ((state-told c.args.self).fact (sym (columns-told c.args.self c.columns_formed.ensures) ∙ not-false _ c.if-not-columns_formed.false-raw)).discoveries.ordered.long.1.1.0
-
-pub request-x-requires : goal.request-x-requires
-request-x-requires c = search-formed _ ((state-told c.args.self).fact (sym (columns-told c.args.self c.columns_formed.ensures) ∙ not-false _ c.if-not-columns_formed.false-raw))
+pub invariant_of-discoveries : goal.invariant_of-discoveries
+invariant_of-discoveries c = record { formed = discoveries-lent.told _ ((state-told _).fact (sym c.well_formed-2.ensures ∙ not-false _ c.if-not-well_formed.false-raw)).discoveries }
 
 pub returns : goal.returns
 unfolding accept_route_request
-returns c = rw (sym (columns-told c.args.self c.columns_formed.ensures) ∙ not-false _ c.if-not-columns_formed.false-raw) (λ z. record { answer = c.request-x.ensures.said z; state = held_back c.args.self _ _ c.request-x.ensures.left z })
+returns c =
+    let x = c.request-answer in
+    rw (sym c.well_formed-2.ensures ∙ not-false _ c.if-not-well_formed.false-raw)
+    (λ z. record { answer = x.ensures.left.said z; state = held_back c.args.self (lent x.new.routes x.new.discoveries) _ x.ensures.left.left z })

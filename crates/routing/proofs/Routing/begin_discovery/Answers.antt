@@ -1,51 +1,37 @@
--- A state that is not well formed is refused as it is, and one that the rule refuses is handed back; else the columns that the rule leaves are put together
--- again, and they are those of its rows.
+-- A state that is not well formed is refused as it is, and one that the rule refuses is handed back; else the columns that the rule leaves are those
+-- of its rows.
 use Prim.Native.Nat.{ℕ}
 use mathlib.Core.Path.{sym, ◌∙◌}
 use borrow.Author.Tests.{not-true, not-false}
-use Rattle.routing.proofs.State.{state-told, columns-told, search-formed}
-use Rattle.routing.proofs.Begun.{refused_as, begun-as}
-use Rattle.routing.specs.State.{rows_in}
+use Rattle.route_table.proofs.Lent as routes-lent
+use Rattle.discovery_table.proofs.Lent as discoveries-lent
+use Rattle.search_tables.specs.Lent.{lent}
 use Rattle.route_begin.specs.Answer.{begun}
+use Rattle.routing.specs.State.{rows_in}
 use Rattle.routing.specs.Search.{begin_discovery}
-use borrow.Author.Rules.{rules}
+use Rattle.routing.proofs.State.{state-told}
+use Rattle.routing.proofs.Begun.{refused_as, begun-as}
 use Rattle.routing.proofs.Routing.begin_discovery.Goals as goal
 
-pub slice_bounds-columns_formed-end-7 : goal.slice_bounds-columns_formed-end-7
-slice_bounds-columns_formed-end-7 c = search (rules, c.well_formed.0.1.1.1.1.1.1.1.1.1.1)
-
-pub slice_bounds-columns_formed-end-8 : goal.slice_bounds-columns_formed-end-8
-slice_bounds-columns_formed-end-8 c = search (rules, c.well_formed.0.1.1.1.1.1.1.1.1.1.1)
-
-pub returns-then-not-columns_formed : goal.returns-then-not-columns_formed
+pub returns-then-not-well_formed : goal.returns-then-not-well_formed
 unfolding begin_discovery
-returns-then-not-columns_formed c = rw (sym (columns-told c.args.self c.columns_formed.ensures) ∙ not-true _ c.if-not-columns_formed.true-raw)
+returns-then-not-well_formed c = rw (sym c.well_formed-2.ensures ∙ not-true _ c.if-not-well_formed.true-raw)
 
-pub slice_bounds-begin-end : goal.slice_bounds-begin-end
-slice_bounds-begin-end c = sym ((state-told c.args.self).fact (sym (columns-told c.args.self c.columns_formed.ensures) ∙ not-false _ c.if-not-columns_formed.false-raw)).routes.ordered.long.0
+pub invariant_of-routes : goal.invariant_of-routes
+invariant_of-routes c = record { formed = routes-lent.told _ ((state-told _).fact (sym c.well_formed-2.ensures ∙ not-false _ c.if-not-well_formed.false-raw)).routes }
 
-pub slice_bounds-begin-end-2 : goal.slice_bounds-begin-end-2
-slice_bounds-begin-end-2 c = sym ((state-told c.args.self).fact (sym (columns-told c.args.self c.columns_formed.ensures) ∙ not-false _ c.if-not-columns_formed.false-raw)).routes.ordered.long.1.0
-
-pub slice_bounds-begin-end-3 : goal.slice_bounds-begin-end-3
-slice_bounds-begin-end-3 c = sym ((state-told c.args.self).fact (sym (columns-told c.args.self c.columns_formed.ensures) ∙ not-false _ c.if-not-columns_formed.false-raw)).routes.ordered.long.1.1.0
-
-pub slice_bounds-begin-end-4 : goal.slice_bounds-begin-end-4
-slice_bounds-begin-end-4 c = sym ((state-told c.args.self).fact (sym (columns-told c.args.self c.columns_formed.ensures) ∙ not-false _ c.if-not-columns_formed.false-raw)).discoveries.ordered.long.0
-
-pub slice_bounds-begin-end-5 : goal.slice_bounds-begin-end-5
-slice_bounds-begin-end-5 c = sym ((state-told c.args.self).fact (sym (columns-told c.args.self c.columns_formed.ensures) ∙ not-false _ c.if-not-columns_formed.false-raw)).discoveries.ordered.long.1.0
-
-pub slice_bounds-begin-end-6 : goal.slice_bounds-begin-end-6
-slice_bounds-begin-end-6 c = sym ((state-told c.args.self).fact (sym (columns-told c.args.self c.columns_formed.ensures) ∙ not-false _ c.if-not-columns_formed.false-raw)).discoveries.ordered.long.1.1.0
-
-pub begin-x-requires : goal.begin-x-requires
-begin-x-requires c = search-formed _ ((state-told c.args.self).fact (sym (columns-told c.args.self c.columns_formed.ensures) ∙ not-false _ c.if-not-columns_formed.false-raw))
+pub invariant_of-discoveries : goal.invariant_of-discoveries
+invariant_of-discoveries c = record { formed = discoveries-lent.told _ ((state-told _).fact (sym c.well_formed-2.ensures ∙ not-false _ c.if-not-well_formed.false-raw)).discoveries }
 
 pub returns-in_default : goal.returns-in_default
 unfolding begin_discovery
-returns-in_default c = rw (sym (columns-told c.args.self c.columns_formed.ensures) ∙ not-false _ c.if-not-columns_formed.false-raw) (refused_as c.args.self (λ (n : ℕ). begun (rows_in c.args.self) c.args.own n c.args.destination c.args.now c.args.route_discovery_time) _ _ c.next_id-id.ensures _ _ c.in_default.is c.begin-x.ensures.said)
+returns-in_default c =
+    rw (sym c.well_formed-2.ensures ∙ not-false _ c.if-not-well_formed.false-raw)
+    (refused_as c.args.self (λ (n : ℕ). begun (rows_in c.args.self) c.args.own n c.args.destination c.args.now c.args.route_discovery_time) _ _ c.next_id-id.ensures _ _ c.in_default.is c.begin-answer.ensures.left.said)
 
 pub returns : goal.returns
 unfolding begin_discovery
-returns c = rw (sym (columns-told c.args.self c.columns_formed.ensures) ∙ not-false _ c.if-not-columns_formed.false-raw) (begun-as c.args.self (λ (n : ℕ). begun (rows_in c.args.self) c.args.own n c.args.destination c.args.now c.args.route_discovery_time) _ _ c.next_id-id.ensures _ _ c.in-Ok.is c.begin-x.ensures.said _ c.begin-x.ensures.left)
+returns c =
+    let x = c.begin-answer in
+    rw (sym c.well_formed-2.ensures ∙ not-false _ c.if-not-well_formed.false-raw)
+    (begun-as c.args.self (λ (n : ℕ). begun (rows_in c.args.self) c.args.own n c.args.destination c.args.now c.args.route_discovery_time) _ _ c.next_id-id.ensures _ _ c.in-Ok.is x.ensures.left.said (lent x.new.routes x.new.discoveries) x.ensures.left.left)

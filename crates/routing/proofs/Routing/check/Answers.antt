@@ -1,7 +1,9 @@
 -- A state that is not well formed is refused; of any other the answer is the table's.
 -- Assumes nothing.
-use mathlib.Core.Path.{sym, ◌∙◌}
+use mathlib.Core.Path.{sym, ap, ◌∙◌}
 use borrow.Author.Tests.{not-true, not-false}
+use Rattle.route_table.specs.Table as routes
+use Rattle.discovery_table.specs.Table as discoveries
 use Rattle.routing.specs.Queries.{check_tables}
 use Rattle.routing.proofs.State.{state-told}
 use Rattle.routing.proofs.Routing.check.Goals as goal
@@ -10,9 +12,12 @@ pub returns-then-not-well_formed : goal.returns-then-not-well_formed
 unfolding check_tables
 returns-then-not-well_formed c = rw (sym c.well_formed-2.ensures ∙ not-true _ c.if-not-well_formed.true-raw)
 
-pub check-answer-requires : goal.check-answer-requires
-check-answer-requires c = let w = (state-told _).fact (sym c.well_formed-2.ensures ∙ not-false _ c.if-not-well_formed.false-raw) in (w.routes, w.discoveries)
+pub routes_seen-requires : goal.routes_seen-requires
+routes_seen-requires c = (state-told _).fact (sym c.well_formed-2.ensures ∙ not-false _ c.if-not-well_formed.false-raw)
+
+pub discoveries_seen-requires : goal.discoveries_seen-requires
+discoveries_seen-requires c = (state-told _).fact (sym c.well_formed-2.ensures ∙ not-false _ c.if-not-well_formed.false-raw)
 
 pub returns : goal.returns
 unfolding check_tables
-returns c = rw (sym c.well_formed-2.ensures ∙ not-false _ c.if-not-well_formed.false-raw, c.check-answer.ensures)
+returns c = rw (sym c.well_formed-2.ensures ∙ not-false _ c.if-not-well_formed.false-raw, c.check-answer.ensures, ap routes.rows_of c.routes_seen.ensures, ap discoveries.rows_of c.discoveries_seen.ensures)

@@ -2,6 +2,7 @@
 -- Assumes nothing.
 use mathlib.Core.Path.{sym, ◌∙◌}
 use borrow.Author.Tests.{not-true, not-false}
+use Rattle.route_table.proofs.Lent.{told, holds}
 use Rattle.routing.specs.Routes.{note_relayed_discovery}
 use Rattle.routing.proofs.State.{state-told, held-routes}
 use Rattle.routing.proofs.Routing.note_relayed_discovery.Goals as goal
@@ -10,11 +11,11 @@ pub returns-then-not-well_formed : goal.returns-then-not-well_formed
 unfolding note_relayed_discovery
 returns-then-not-well_formed c = rw (sym c.well_formed-2.ensures ∙ not-true _ c.if-not-well_formed.true-raw) c.refuse_done.ensures
 
-pub note_relayed_discovery-x-requires : goal.note_relayed_discovery-x-requires
-note_relayed_discovery-x-requires c = ((state-told _).fact (sym c.well_formed-2.ensures ∙ not-false _ c.if-not-well_formed.false-raw)).routes
+pub invariant_of-routes : goal.invariant_of-routes
+invariant_of-routes c = record { formed = told _ ((state-told _).fact (sym c.well_formed-2.ensures ∙ not-false _ c.if-not-well_formed.false-raw)).routes }
 
 pub returns : goal.returns
 unfolding note_relayed_discovery
 returns c =
     rw (sym c.well_formed-2.ensures ∙ not-false _ c.if-not-well_formed.false-raw)
-    (λ z. record { answer = c.note_relayed_discovery-x.ensures.said z; state = held-routes c.args.self _ _ c.note_relayed_discovery-x.ensures.left z })
+    (λ z. record { answer = c.note_relayed_discovery-answer.ensures.said z; state = held-routes c.args.self _ _ (holds c.note_relayed_discovery-answer.new.routes _ c.note_relayed_discovery-answer.ensures.left.routes) z })

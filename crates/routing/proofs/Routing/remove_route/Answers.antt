@@ -3,6 +3,7 @@
 use Rattle.std.specs.Prelude.{Ok}
 use mathlib.Core.Path.{sym, ◌∙◌}
 use borrow.Author.Tests.{not-true, not-false}
+use Rattle.route_table.proofs.Lent.{told, holds}
 use Rattle.routing.specs.Routes.{remove_route}
 use Rattle.routing.proofs.State.{state-told, held-routes}
 use Rattle.routing.proofs.Routing.remove_route.Goals as goal
@@ -11,11 +12,11 @@ pub returns-then-not-well_formed : goal.returns-then-not-well_formed
 unfolding remove_route
 returns-then-not-well_formed c = rw (sym c.well_formed-2.ensures ∙ not-true _ c.if-not-well_formed.true-raw) c.refuse_told.ensures
 
-pub remove_route-x-requires : goal.remove_route-x-requires
-remove_route-x-requires c = ((state-told _).fact (sym c.well_formed-2.ensures ∙ not-false _ c.if-not-well_formed.false-raw)).routes
+pub invariant_of-routes : goal.invariant_of-routes
+invariant_of-routes c = record { formed = told _ ((state-told _).fact (sym c.well_formed-2.ensures ∙ not-false _ c.if-not-well_formed.false-raw)).routes }
 
 pub returns : goal.returns
 unfolding remove_route
 returns c =
     rw (sym c.well_formed-2.ensures ∙ not-false _ c.if-not-well_formed.false-raw)
-    (λ z. record { answer = Ok (c.remove_route-x.ensures.said z); state = held-routes c.args.self _ _ c.remove_route-x.ensures.left z })
+    (λ z. record { answer = Ok (c.remove_route-removed.ensures.said z); state = held-routes c.args.self _ _ (holds c.remove_route-removed.new.routes _ c.remove_route-removed.ensures.left.routes) z })

@@ -2,6 +2,7 @@
 -- Assumes nothing.
 use mathlib.Core.Path.{sym, ◌∙◌}
 use borrow.Author.Tests.{not-true, not-false}
+use Rattle.route_table.proofs.Lent.{told, holds}
 use Rattle.routing.specs.Routes.{restore_route}
 use Rattle.routing.proofs.State.{state-told, held-routes}
 use Rattle.routing.proofs.Routing.restore_route.Goals as goal
@@ -10,11 +11,11 @@ pub returns-then-not-well_formed : goal.returns-then-not-well_formed
 unfolding restore_route
 returns-then-not-well_formed c = rw (sym c.well_formed-2.ensures ∙ not-true _ c.if-not-well_formed.true-raw) c.refuse_done.ensures
 
-pub restore_route-x-requires : goal.restore_route-x-requires
-restore_route-x-requires c = ((state-told _).fact (sym c.well_formed-2.ensures ∙ not-false _ c.if-not-well_formed.false-raw)).routes
+pub invariant_of-routes : goal.invariant_of-routes
+invariant_of-routes c = record { formed = told _ ((state-told _).fact (sym c.well_formed-2.ensures ∙ not-false _ c.if-not-well_formed.false-raw)).routes }
 
 pub returns : goal.returns
 unfolding restore_route
 returns c =
     rw (sym c.well_formed-2.ensures ∙ not-false _ c.if-not-well_formed.false-raw)
-    (λ z. record { answer = c.restore_route-x.ensures.said z; state = held-routes c.args.self _ _ c.restore_route-x.ensures.left z })
+    (λ z. record { answer = c.restore_route-answer.ensures.said z; state = held-routes c.args.self _ _ (holds c.restore_route-answer.new.routes _ c.restore_route-answer.ensures.left.routes) z })

@@ -1,7 +1,8 @@
 -- A state that is not well formed is refused; of any other the answer is the table's.
 -- Assumes nothing.
-use mathlib.Core.Path.{sym, ◌∙◌}
+use mathlib.Core.Path.{sym, ap, ◌∙◌}
 use borrow.Author.Tests.{not-true, not-false}
+use Rattle.route_table.specs.Table.{rows_of}
 use Rattle.routing.specs.Queries.{route_status}
 use Rattle.routing.proofs.State.{state-told}
 use Rattle.routing.proofs.Routing.route_status.Goals as goal
@@ -10,9 +11,9 @@ pub returns-then-not-well_formed : goal.returns-then-not-well_formed
 unfolding route_status
 returns-then-not-well_formed c = rw (sym c.well_formed-2.ensures ∙ not-true _ c.if-not-well_formed.true-raw)
 
-pub route_status-answer-requires : goal.route_status-answer-requires
-route_status-answer-requires c = ((state-told _).fact (sym c.well_formed-2.ensures ∙ not-false _ c.if-not-well_formed.false-raw)).routes
+pub routes_seen-requires : goal.routes_seen-requires
+routes_seen-requires c = (state-told _).fact (sym c.well_formed-2.ensures ∙ not-false _ c.if-not-well_formed.false-raw)
 
 pub returns : goal.returns
 unfolding route_status
-returns c = rw (sym c.well_formed-2.ensures ∙ not-false _ c.if-not-well_formed.false-raw, c.route_status-answer.ensures)
+returns c = rw (sym c.well_formed-2.ensures ∙ not-false _ c.if-not-well_formed.false-raw, c.route_status-answer.ensures, ap rows_of c.routes_seen.ensures)
