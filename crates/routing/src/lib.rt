@@ -150,31 +150,30 @@ impl Routing {
         }
     }
 
+    // Whether the three tables are well formed, tested where they stand.
+    fn formed(&self) -> bool
+        ensures { result ≡ well_formed self.now }
+    {
+        columns_formed(
+            &self.route_keys,
+            &self.route_words,
+            &self.route_usage,
+            self.routes,
+            &self.discovery_keys,
+            &self.discovery_words,
+            &self.discovery_ends,
+            self.discoveries,
+            &self.record_keys,
+            &self.record_lengths,
+            self.records,
+        )
+    }
+
     // Whether the three tables are well formed.
     pub fn well_formed(self) -> bool
         ensures { result ≡ well_formed self }
     {
-        let route_keys = self.route_keys;
-        let route_words = self.route_words;
-        let route_usage = self.route_usage;
-        let discovery_keys = self.discovery_keys;
-        let discovery_words = self.discovery_words;
-        let discovery_ends = self.discovery_ends;
-        let record_keys = self.record_keys;
-        let record_lengths = self.record_lengths;
-        columns_formed(
-            &route_keys,
-            &route_words,
-            &route_usage,
-            self.routes,
-            &discovery_keys,
-            &discovery_words,
-            &discovery_ends,
-            self.discoveries,
-            &record_keys,
-            &record_lengths,
-            self.records,
-        )
+        self.formed()
     }
 
     // A route reply heard from `sender`: dropped, established for our own search, or to be relayed.
@@ -189,7 +188,7 @@ impl Routing {
     ) -> RouteReplyOutcome
         ensures { result ≡ accept_route_reply self own originator request_id responder sender updated_path_cost }
     {
-        if !self.well_formed() {
+        if !self.formed() {
             return RouteReplyOutcome {
                 answer: Err(Refusal::StateIllFormed),
                 state: self,
@@ -236,7 +235,7 @@ impl Routing {
     ) -> RouteRequestOutcome
         ensures { result ≡ accept_route_request self originator request_id destination sender updated_path_cost many_to_one now route_discovery_time }
     {
-        if !self.well_formed() {
+        if !self.formed() {
             return RouteRequestOutcome {
                 answer: Err(Refusal::StateIllFormed),
                 state: self,
@@ -284,7 +283,7 @@ impl Routing {
     ) -> BeginOutcome
         ensures { result ≡ begin_discovery self own destination now route_discovery_time }
     {
-        if !self.well_formed() {
+        if !self.formed() {
             return BeginOutcome {
                 answer: Err(Refusal::StateIllFormed),
                 state: self,
@@ -336,7 +335,7 @@ impl Routing {
     ) -> BeginOutcome
         ensures { result ≡ begin_many_to_one_advertisement self own now route_discovery_time }
     {
-        if !self.well_formed() {
+        if !self.formed() {
             return BeginOutcome {
                 answer: Err(Refusal::StateIllFormed),
                 state: self,

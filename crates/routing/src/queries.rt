@@ -46,7 +46,7 @@ impl Routing {
     pub fn route_status(self, destination: Nwk) -> Result<Option<Status>, Refusal>
         ensures { result ≡ route_status self destination }
     {
-        if !self.well_formed() {
+        if !self.formed() {
             return Err(Refusal::StateIllFormed);
         }
         let answer = route_calls::route_status(&self.routes_seen(), destination);
@@ -57,7 +57,7 @@ impl Routing {
     pub fn discovery_deadline(self, destination: Nwk, now: u64) -> Result<Option<u64>, Refusal>
         ensures { result ≡ discovery_deadline self destination now }
     {
-        if !self.well_formed() {
+        if !self.formed() {
             return Err(Refusal::StateIllFormed);
         }
         let answer = self.discoveries_seen().discovery_deadline(destination, now);
@@ -68,7 +68,7 @@ impl Routing {
     pub fn route_count(self) -> Result<usize, Refusal>
         ensures { result ≡ route_count self }
     {
-        if !self.well_formed() {
+        if !self.formed() {
             return Err(Refusal::StateIllFormed);
         }
         Ok(self.routes)
@@ -78,7 +78,7 @@ impl Routing {
     pub fn discovery_count(self) -> Result<usize, Refusal>
         ensures { result ≡ discovery_count self }
     {
-        if !self.well_formed() {
+        if !self.formed() {
             return Err(Refusal::StateIllFormed);
         }
         Ok(self.discoveries)
@@ -88,7 +88,7 @@ impl Routing {
     pub fn route_at(self, place: usize) -> Result<Option<RouteEntry>, Refusal>
         ensures { result ≡ route_at self place }
     {
-        if !self.well_formed() {
+        if !self.formed() {
             return Err(Refusal::StateIllFormed);
         }
         let answer = self.routes_seen().at(place);
@@ -99,7 +99,7 @@ impl Routing {
     pub fn discovery_at(self, place: usize) -> Result<Option<DiscoveryEntry>, Refusal>
         ensures { result ≡ discovery_at self place }
     {
-        if !self.well_formed() {
+        if !self.formed() {
             return Err(Refusal::StateIllFormed);
         }
         let answer = self.discoveries_seen().at(place);
@@ -110,7 +110,7 @@ impl Routing {
     pub fn check(self) -> Result<Checked, Refusal>
         ensures { result ≡ check_tables self }
     {
-        if !self.well_formed() {
+        if !self.formed() {
             return Err(Refusal::StateIllFormed);
         }
         let answer = route_calls::check(&self.routes_seen(), &self.discoveries_seen());
@@ -122,14 +122,24 @@ impl Routing {
         requires { WellFormed self }
         ensures { result ≡ hop_answer (hop_at destination.0 (routes_in self)) }
     {
-        route_calls::next_hop(&self.routes_seen(), destination)
+        let keys = self.route_keys;
+        let words = self.route_words;
+        let usage = self.route_usage;
+        let count = self.routes;
+        let routes = RoutesSeen {
+            keys: &keys,
+            words: &words,
+            usage: &usage,
+            count,
+        };
+        route_calls::next_hop(&routes, destination)
     }
 
     // The next hop to a destination by its Active route. A hop that is not known is refusal 6.
     pub fn next_hop(self, destination: Nwk) -> Result<Option<Nwk>, Refusal>
         ensures { result ≡ next_hop_of self destination }
     {
-        if !self.well_formed() {
+        if !self.formed() {
             return Err(Refusal::StateIllFormed);
         }
         self.active_hop(destination)
@@ -139,7 +149,7 @@ impl Routing {
     pub fn note_route_error(self, threshold: u8) -> ToldOutcome
         ensures { result ≡ note_route_error self threshold }
     {
-        if !self.well_formed() {
+        if !self.formed() {
             return self.refuse_told(Refusal::StateIllFormed);
         }
         let count = self.mtorr_route_errors.saturating_add(1);
@@ -155,7 +165,7 @@ impl Routing {
     pub fn note_delivery_failure(self, threshold: u8) -> ToldOutcome
         ensures { result ≡ note_delivery_failure self threshold }
     {
-        if !self.well_formed() {
+        if !self.formed() {
             return self.refuse_told(Refusal::StateIllFormed);
         }
         let count = self.mtorr_delivery_failures.saturating_add(1);
@@ -171,7 +181,7 @@ impl Routing {
     pub fn reset_mtorr_triggers(self) -> DoneOutcome
         ensures { result ≡ reset_mtorr_triggers self }
     {
-        if !self.well_formed() {
+        if !self.formed() {
             return self.refuse_done();
         }
         let mut state = self;

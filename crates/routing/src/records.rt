@@ -76,13 +76,20 @@ impl Routing {
         }
     }
 
+    // Whether a store agrees with the record table, which is well formed and read where it stands.
+    fn fits(&self, store: &[u16]) -> bool
+        requires { WellFormed self.now }
+        ensures { result ≡ agrees (record_table self.now) store.now }
+    {
+        relay_store::agrees(&self.record_lengths, store)
+    }
+
     // Whether a store agrees with the record table, which is well formed.
     pub fn agrees(self, store: &[u16]) -> bool
         requires { WellFormed self }
         ensures { result ≡ agrees (record_table self) store.now }
     {
-        let record_lengths = self.record_lengths;
-        relay_store::agrees(&record_lengths, store)
+        self.fits(store)
     }
 
     // The state as it came, for a refusal.
@@ -105,10 +112,10 @@ impl Routing {
         ensures value { result ≡ store_route_record self source relays store.old }
         ensures store_after { store.new ≡ store_after_record self source relays store.old }
     {
-        if !self.well_formed() {
+        if !self.formed() {
             return self.refuse_record(Refusal::StateIllFormed);
         }
-        if !self.agrees(store) {
+        if !self.fits(store) {
             return self.refuse_record(Refusal::StoreDisagrees);
         }
         if 32 < relays.count {
@@ -130,10 +137,10 @@ impl Routing {
         ensures value { result ≡ remove_route_record self destination store.old }
         ensures store_after { store.new ≡ store_after_removal self destination store.old }
     {
-        if !self.well_formed() {
+        if !self.formed() {
             return self.refuse_told(Refusal::StateIllFormed);
         }
-        if !self.agrees(store) {
+        if !self.fits(store) {
             return self.refuse_told(Refusal::StoreDisagrees);
         }
         let mut state = self;
@@ -175,7 +182,16 @@ impl Routing {
         requires { WellFormed self × Agrees (record_table self) store.now }
         ensures { result ≡ route_to_core self destination max_source_route store.now }
     {
-        let x = route_record::way_to(&self.records_seen(), store, destination, max_source_route);
+        // The columns that are read are copied here and in `active_hop`: to lend `self`, all of it is copied.
+        let keys = self.record_keys;
+        let lengths = self.record_lengths;
+        let count = self.records;
+        let records = RecordsSeen {
+            keys: &keys,
+            lengths: &lengths,
+            count,
+        };
+        let x = route_record::way_to(&records, store, destination, max_source_route);
         let way = x.route;
         let relays = x.relays;
         let answer = self.answer_by(destination, way);
@@ -186,10 +202,10 @@ impl Routing {
     pub fn route_to(self, store: &[u16], destination: Nwk, max_source_route: u8) -> RouteToOutcome
         ensures { result ≡ route_to self destination max_source_route store.now }
     {
-        if !self.well_formed() {
+        if !self.formed() {
             return refuse_way(Refusal::StateIllFormed);
         }
-        if !self.agrees(store) {
+        if !self.fits(store) {
             return refuse_way(Refusal::StoreDisagrees);
         }
         let x = route_record::way_to(&self.records_seen(), store, destination, max_source_route);
@@ -210,7 +226,7 @@ impl Routing {
     pub fn record_count(self) -> Result<usize, Refusal>
         ensures { result ≡ record_count self }
     {
-        if !self.well_formed() {
+        if !self.formed() {
             return Err(Refusal::StateIllFormed);
         }
         Ok(self.records)
@@ -220,10 +236,10 @@ impl Routing {
     pub fn record_at(self, store: &[u16], place: usize) -> RecordAtOutcome
         ensures { result ≡ record_at self place store.now }
     {
-        if !self.well_formed() {
+        if !self.formed() {
             return refuse_record_at(Refusal::StateIllFormed);
         }
-        if !self.agrees(store) {
+        if !self.fits(store) {
             return refuse_record_at(Refusal::StoreDisagrees);
         }
         let row = route_record::record_at(&self.records_seen(), store, place);

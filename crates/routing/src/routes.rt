@@ -31,7 +31,7 @@ impl Routing {
     pub fn mark_discovery_failed(self, destination: Nwk) -> DoneOutcome
         ensures { result ≡ mark_discovery_failed self destination }
     {
-        if !self.well_formed() {
+        if !self.formed() {
             return self.refuse_done();
         }
         let mut state = self;
@@ -52,7 +52,7 @@ impl Routing {
     pub fn record_usage(self, destination: Nwk) -> DoneOutcome
         ensures { result ≡ record_usage self destination }
     {
-        if !self.well_formed() {
+        if !self.formed() {
             return self.refuse_done();
         }
         let mut state = self;
@@ -73,7 +73,7 @@ impl Routing {
     pub fn note_source_routed_frame(self, concentrator: Nwk) -> DoneOutcome
         ensures { result ≡ note_source_routed_frame self concentrator }
     {
-        if !self.well_formed() {
+        if !self.formed() {
             return self.refuse_done();
         }
         let mut state = self;
@@ -94,7 +94,7 @@ impl Routing {
     pub fn decay_activity(self) -> DoneOutcome
         ensures { result ≡ decay_activity self }
     {
-        if !self.well_formed() {
+        if !self.formed() {
             return self.refuse_done();
         }
         let route_keys = self.route_keys;
@@ -113,7 +113,7 @@ impl Routing {
     pub fn invalidate_via(self, next_hop: Nwk) -> DoneOutcome
         ensures { result ≡ invalidate_via self next_hop }
     {
-        if !self.well_formed() {
+        if !self.formed() {
             return self.refuse_done();
         }
         let route_keys = self.route_keys;
@@ -138,7 +138,7 @@ impl Routing {
     pub fn restore_route(self, destination: Nwk, next_hop: Nwk, path_cost: u8) -> DoneOutcome
         ensures { result ≡ restore_route self destination next_hop path_cost }
     {
-        if !self.well_formed() {
+        if !self.formed() {
             return self.refuse_done();
         }
         let mut state = self;
@@ -157,7 +157,7 @@ impl Routing {
     pub fn note_relayed_discovery(self, destination: Nwk) -> DoneOutcome
         ensures { result ≡ note_relayed_discovery self destination }
     {
-        if !self.well_formed() {
+        if !self.formed() {
             return self.refuse_done();
         }
         let mut state = self;
@@ -176,7 +176,7 @@ impl Routing {
     pub fn remove_route(self, destination: Nwk) -> ToldOutcome
         ensures { result ≡ remove_route self destination }
     {
-        if !self.well_formed() {
+        if !self.formed() {
             return self.refuse_told(Refusal::StateIllFormed);
         }
         let mut state = self;

@@ -13,25 +13,25 @@ use Rattle.routing.proofs.State.{state-told}
 use Rattle.routing.proofs.Begun.{refused_as, begun-as}
 use Rattle.routing.proofs.Routing.begin_many_to_one_advertisement.Goals as goal
 
-pub returns-then-not-well_formed : goal.returns-then-not-well_formed
+pub returns-then-not-formed : goal.returns-then-not-formed
 unfolding begin_many_to_one_advertisement
-returns-then-not-well_formed c = rw (sym c.well_formed-2.ensures ∙ not-true _ c.if-not-well_formed.true-raw)
+returns-then-not-formed c = rw (sym c.formed.ensures ∙ not-true _ c.if-not-formed.true-raw)
 
 pub invariant_of-routes : goal.invariant_of-routes
-invariant_of-routes c = record { formed = routes-lent.told _ ((state-told _).fact (sym c.well_formed-2.ensures ∙ not-false _ c.if-not-well_formed.false-raw)).routes }
+invariant_of-routes c = record { formed = routes-lent.told _ ((state-told _).fact (sym c.formed.ensures ∙ not-false _ c.if-not-formed.false-raw)).routes }
 
 pub invariant_of-discoveries : goal.invariant_of-discoveries
-invariant_of-discoveries c = record { formed = discoveries-lent.told _ ((state-told _).fact (sym c.well_formed-2.ensures ∙ not-false _ c.if-not-well_formed.false-raw)).discoveries }
+invariant_of-discoveries c = record { formed = discoveries-lent.told _ ((state-told _).fact (sym c.formed.ensures ∙ not-false _ c.if-not-formed.false-raw)).discoveries }
 
 pub returns-in_default : goal.returns-in_default
 unfolding begin_many_to_one_advertisement
 returns-in_default c =
-    rw (sym c.well_formed-2.ensures ∙ not-false _ c.if-not-well_formed.false-raw)
+    rw (sym c.formed.ensures ∙ not-false _ c.if-not-formed.false-raw)
     (refused_as c.args.self (λ (n : ℕ). advertised (rows_in c.args.self) c.args.own n c.args.now c.args.route_discovery_time) _ _ c.next_id-id.ensures _ _ c.in_default.is c.advertise-answer.ensures.left.said)
 
 pub returns : goal.returns
 unfolding begin_many_to_one_advertisement
 returns c =
     let x = c.advertise-answer in
-    rw (sym c.well_formed-2.ensures ∙ not-false _ c.if-not-well_formed.false-raw)
+    rw (sym c.formed.ensures ∙ not-false _ c.if-not-formed.false-raw)
     (begun-as c.args.self (λ (n : ℕ). advertised (rows_in c.args.self) c.args.own n c.args.now c.args.route_discovery_time) _ _ c.next_id-id.ensures _ _ c.in-Ok.is x.ensures.left.said (lent x.new.routes x.new.discoveries) x.ensures.left.left)

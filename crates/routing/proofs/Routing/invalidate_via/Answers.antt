@@ -7,15 +7,15 @@ use Rattle.routing.specs.Routes.{invalidate_via}
 use Rattle.routing.proofs.State.{state-told, held-routes}
 use Rattle.routing.proofs.Routing.invalidate_via.Goals as goal
 
-pub returns-then-not-well_formed : goal.returns-then-not-well_formed
+pub returns-then-not-formed : goal.returns-then-not-formed
 unfolding invalidate_via
-returns-then-not-well_formed c = rw (sym c.well_formed-2.ensures ∙ not-true _ c.if-not-well_formed.true-raw) c.refuse_done.ensures
+returns-then-not-formed c = rw (sym c.formed.ensures ∙ not-true _ c.if-not-formed.true-raw) c.refuse_done.ensures
 
 pub invalidate_via-requires : goal.invalidate_via-requires
-invalidate_via-requires c = ((state-told _).fact (sym c.well_formed-2.ensures ∙ not-false _ c.if-not-well_formed.false-raw)).routes
+invalidate_via-requires c = ((state-told _).fact (sym c.formed.ensures ∙ not-false _ c.if-not-formed.false-raw)).routes
 
 pub returns : goal.returns
 unfolding invalidate_via
 returns c =
-    rw (sym c.well_formed-2.ensures ∙ not-false _ c.if-not-well_formed.false-raw)
+    rw (sym c.formed.ensures ∙ not-false _ c.if-not-formed.false-raw)
     (λ z. record { answer = Ok tt; state = held-routes c.args.self _ _ c.invalidate_via.ensures z })

@@ -6,13 +6,13 @@ use Rattle.routing.specs.Queries.{next_hop_of}
 use Rattle.routing.proofs.State.{state-told}
 use Rattle.routing.proofs.Routing.next_hop.Goals as goal
 
-pub returns-then-not-well_formed : goal.returns-then-not-well_formed
+pub returns-then-not-formed : goal.returns-then-not-formed
 unfolding next_hop_of
-returns-then-not-well_formed c = rw (sym c.well_formed-2.ensures ∙ not-true _ c.if-not-well_formed.true-raw)
+returns-then-not-formed c = rw (sym c.formed.ensures ∙ not-true _ c.if-not-formed.true-raw)
 
 pub active_hop-requires : goal.active_hop-requires
-active_hop-requires c = (state-told _).fact (sym c.well_formed-2.ensures ∙ not-false _ c.if-not-well_formed.false-raw)
+active_hop-requires c = (state-told _).fact (sym c.formed.ensures ∙ not-false _ c.if-not-formed.false-raw)
 
 pub returns : goal.returns
 unfolding next_hop_of
-returns c = rw (sym c.well_formed-2.ensures ∙ not-false _ c.if-not-well_formed.false-raw) c.active_hop.ensures
+returns c = rw (sym c.formed.ensures ∙ not-false _ c.if-not-formed.false-raw) c.active_hop.ensures

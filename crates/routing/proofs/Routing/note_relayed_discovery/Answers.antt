@@ -7,15 +7,15 @@ use Rattle.routing.specs.Routes.{note_relayed_discovery}
 use Rattle.routing.proofs.State.{state-told, held-routes}
 use Rattle.routing.proofs.Routing.note_relayed_discovery.Goals as goal
 
-pub returns-then-not-well_formed : goal.returns-then-not-well_formed
+pub returns-then-not-formed : goal.returns-then-not-formed
 unfolding note_relayed_discovery
-returns-then-not-well_formed c = rw (sym c.well_formed-2.ensures ∙ not-true _ c.if-not-well_formed.true-raw) c.refuse_done.ensures
+returns-then-not-formed c = rw (sym c.formed.ensures ∙ not-true _ c.if-not-formed.true-raw) c.refuse_done.ensures
 
 pub invariant_of-routes : goal.invariant_of-routes
-invariant_of-routes c = record { formed = told _ ((state-told _).fact (sym c.well_formed-2.ensures ∙ not-false _ c.if-not-well_formed.false-raw)).routes }
+invariant_of-routes c = record { formed = told _ ((state-told _).fact (sym c.formed.ensures ∙ not-false _ c.if-not-formed.false-raw)).routes }
 
 pub returns : goal.returns
 unfolding note_relayed_discovery
 returns c =
-    rw (sym c.well_formed-2.ensures ∙ not-false _ c.if-not-well_formed.false-raw)
+    rw (sym c.formed.ensures ∙ not-false _ c.if-not-formed.false-raw)
     (λ z. record { answer = c.note_relayed_discovery-answer.ensures.said z; state = held-routes c.args.self _ _ (holds c.note_relayed_discovery-answer.new.routes _ c.note_relayed_discovery-answer.ensures.left.routes) z })

@@ -5,10 +5,10 @@ use borrow.Author.Tests.{not-true, not-false}
 use Rattle.routing.specs.Queries.{note_route_error}
 use Rattle.routing.proofs.Routing.note_route_error.Goals as goal
 
-pub returns-then-not-well_formed : goal.returns-then-not-well_formed
+pub returns-then-not-formed : goal.returns-then-not-formed
 unfolding note_route_error
-returns-then-not-well_formed c = rw (sym c.well_formed-2.ensures ∙ not-true _ c.if-not-well_formed.true-raw) c.refuse_told.ensures
+returns-then-not-formed c = rw (sym c.formed.ensures ∙ not-true _ c.if-not-formed.true-raw) c.refuse_told.ensures
 
 pub returns : goal.returns
 unfolding note_route_error
-returns c = rw (sym c.well_formed-2.ensures ∙ not-false _ c.if-not-well_formed.false-raw, c.saturating_add-count.ensures)
+returns c = rw (sym c.formed.ensures ∙ not-false _ c.if-not-formed.false-raw, c.saturating_add-count.ensures)

@@ -10,29 +10,29 @@ use Rattle.routing.specs.Records.{record_at}
 use Rattle.routing.proofs.State.{state-told}
 use Rattle.routing.proofs.Routing.record_at.Goals as goal
 
-pub returns-then-not-well_formed : goal.returns-then-not-well_formed
+pub returns-then-not-formed : goal.returns-then-not-formed
 unfolding record_at
-returns-then-not-well_formed c = rw (sym c.well_formed-2.ensures ∙ not-true _ c.if-not-well_formed.true-raw) c.refuse_record_at.ensures
+returns-then-not-formed c = rw (sym c.formed.ensures ∙ not-true _ c.if-not-formed.true-raw) c.refuse_record_at.ensures
 
-pub agrees-requires : goal.agrees-requires
-agrees-requires c = (state-told _).fact (sym c.well_formed-2.ensures ∙ not-false _ c.if-not-well_formed.false-raw)
+pub fits-requires : goal.fits-requires
+fits-requires c = (state-told _).fact (sym c.formed.ensures ∙ not-false _ c.if-not-formed.false-raw)
 
-pub returns-then-not-agrees : goal.returns-then-not-agrees
+pub returns-then-not-fits : goal.returns-then-not-fits
 unfolding record_at
-returns-then-not-agrees c =
-    let good = sym c.well_formed-2.ensures ∙ not-false _ c.if-not-well_formed.false-raw in
-    let off = sym c.agrees.ensures ∙ not-true _ c.if-not-agrees.true-raw in
-    rw (good, off) c.refuse_record_at-then-not-agrees.ensures
+returns-then-not-fits c =
+    let good = sym c.formed.ensures ∙ not-false _ c.if-not-formed.false-raw in
+    let off = sym c.fits.ensures ∙ not-true _ c.if-not-fits.true-raw in
+    rw (good, off) c.refuse_record_at-then-not-fits.ensures
 
 pub records_seen-requires : goal.records_seen-requires
-records_seen-requires c = (state-told _).fact (sym c.well_formed-2.ensures ∙ not-false _ c.if-not-well_formed.false-raw)
+records_seen-requires c = (state-told _).fact (sym c.formed.ensures ∙ not-false _ c.if-not-formed.false-raw)
 
 pub record_at-row-requires : goal.record_at-row-requires
-record_at-row-requires c = subst (λ (t : RecordTable). Agrees t c.args.store.now) (sym c.records_seen.ensures) ((agrees-told _ _).fact (sym c.agrees.ensures ∙ not-false _ c.if-not-agrees.false-raw))
+record_at-row-requires c = subst (λ (t : RecordTable). Agrees t c.args.store.now) (sym c.records_seen.ensures) ((agrees-told _ _).fact (sym c.fits.ensures ∙ not-false _ c.if-not-fits.false-raw))
 
 pub returns : goal.returns
 unfolding record_at
 returns c =
-    let good = sym c.well_formed-2.ensures ∙ not-false _ c.if-not-well_formed.false-raw in
-    let fit = sym c.agrees.ensures ∙ not-false _ c.if-not-agrees.false-raw in
+    let good = sym c.formed.ensures ∙ not-false _ c.if-not-formed.false-raw in
+    let fit = sym c.fits.ensures ∙ not-false _ c.if-not-fits.false-raw in
     rw (good, fit, c.record_at-row.ensures ∙ ap (λ (t : RecordTable). record_held c.args.place t c.args.store.now) c.records_seen.ensures)

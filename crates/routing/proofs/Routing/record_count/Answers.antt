@@ -7,12 +7,12 @@ use Rattle.routing.specs.Records.{record_count}
 use Rattle.routing.proofs.State.{state-told}
 use Rattle.routing.proofs.Routing.record_count.Goals as goal
 
-pub returns-then-not-well_formed : goal.returns-then-not-well_formed
+pub returns-then-not-formed : goal.returns-then-not-formed
 unfolding record_count
-returns-then-not-well_formed c = rw (sym c.well_formed-2.ensures ∙ not-true _ c.if-not-well_formed.true-raw)
+returns-then-not-formed c = rw (sym c.formed.ensures ∙ not-true _ c.if-not-formed.true-raw)
 
 pub returns : goal.returns
 unfolding record_count
 returns c =
-    let good = sym c.well_formed-2.ensures ∙ not-false _ c.if-not-well_formed.false-raw in
+    let good = sym c.formed.ensures ∙ not-false _ c.if-not-formed.false-raw in
     rw (good, many _ ((state-told _).fact good).records)

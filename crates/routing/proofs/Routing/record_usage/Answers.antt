@@ -8,16 +8,16 @@ use Rattle.routing.specs.Routes.{record_usage}
 use Rattle.routing.proofs.State.{state-told, held-routes}
 use Rattle.routing.proofs.Routing.record_usage.Goals as goal
 
-pub returns-then-not-well_formed : goal.returns-then-not-well_formed
+pub returns-then-not-formed : goal.returns-then-not-formed
 unfolding record_usage
-returns-then-not-well_formed c = rw (sym c.well_formed-2.ensures ∙ not-true _ c.if-not-well_formed.true-raw) c.refuse_done.ensures
+returns-then-not-formed c = rw (sym c.formed.ensures ∙ not-true _ c.if-not-formed.true-raw) c.refuse_done.ensures
 
 pub invariant_of-routes : goal.invariant_of-routes
-invariant_of-routes c = record { formed = told _ ((state-told _).fact (sym c.well_formed-2.ensures ∙ not-false _ c.if-not-well_formed.false-raw)).routes }
+invariant_of-routes c = record { formed = told _ ((state-told _).fact (sym c.formed.ensures ∙ not-false _ c.if-not-formed.false-raw)).routes }
 
 pub returns : goal.returns
 unfolding record_usage
 returns c =
     let q = c.record_usage.ensures in
-    rw (sym c.well_formed-2.ensures ∙ not-false _ c.if-not-well_formed.false-raw)
+    rw (sym c.formed.ensures ∙ not-false _ c.if-not-formed.false-raw)
     (λ z. record { answer = Ok tt; state = held-routes c.args.self _ _ (values-hold _ c.record_usage.new.routes _ q) z })

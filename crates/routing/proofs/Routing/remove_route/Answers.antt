@@ -8,15 +8,15 @@ use Rattle.routing.specs.Routes.{remove_route}
 use Rattle.routing.proofs.State.{state-told, held-routes}
 use Rattle.routing.proofs.Routing.remove_route.Goals as goal
 
-pub returns-then-not-well_formed : goal.returns-then-not-well_formed
+pub returns-then-not-formed : goal.returns-then-not-formed
 unfolding remove_route
-returns-then-not-well_formed c = rw (sym c.well_formed-2.ensures ∙ not-true _ c.if-not-well_formed.true-raw) c.refuse_told.ensures
+returns-then-not-formed c = rw (sym c.formed.ensures ∙ not-true _ c.if-not-formed.true-raw) c.refuse_told.ensures
 
 pub invariant_of-routes : goal.invariant_of-routes
-invariant_of-routes c = record { formed = told _ ((state-told _).fact (sym c.well_formed-2.ensures ∙ not-false _ c.if-not-well_formed.false-raw)).routes }
+invariant_of-routes c = record { formed = told _ ((state-told _).fact (sym c.formed.ensures ∙ not-false _ c.if-not-formed.false-raw)).routes }
 
 pub returns : goal.returns
 unfolding remove_route
 returns c =
-    rw (sym c.well_formed-2.ensures ∙ not-false _ c.if-not-well_formed.false-raw)
+    rw (sym c.formed.ensures ∙ not-false _ c.if-not-formed.false-raw)
     (λ z. record { answer = Ok (c.remove_route-removed.ensures.said z); state = held-routes c.args.self _ _ (holds c.remove_route-removed.new.routes _ c.remove_route-removed.ensures.left.routes) z })

@@ -5,10 +5,10 @@ use borrow.Author.Tests.{not-true, not-false}
 use Rattle.routing.specs.Queries.{reset_mtorr_triggers}
 use Rattle.routing.proofs.Routing.reset_mtorr_triggers.Goals as goal
 
-pub returns-then-not-well_formed : goal.returns-then-not-well_formed
+pub returns-then-not-formed : goal.returns-then-not-formed
 unfolding reset_mtorr_triggers
-returns-then-not-well_formed c = rw (sym c.well_formed-2.ensures ∙ not-true _ c.if-not-well_formed.true-raw) c.refuse_done.ensures
+returns-then-not-formed c = rw (sym c.formed.ensures ∙ not-true _ c.if-not-formed.true-raw) c.refuse_done.ensures
 
 pub returns : goal.returns
 unfolding reset_mtorr_triggers
-returns c = rw (sym c.well_formed-2.ensures ∙ not-false _ c.if-not-well_formed.false-raw)
+returns c = rw (sym c.formed.ensures ∙ not-false _ c.if-not-formed.false-raw)

@@ -7,13 +7,13 @@ use Rattle.routing.specs.Queries.{route_at}
 use Rattle.routing.proofs.State.{state-told}
 use Rattle.routing.proofs.Routing.route_at.Goals as goal
 
-pub returns-then-not-well_formed : goal.returns-then-not-well_formed
+pub returns-then-not-formed : goal.returns-then-not-formed
 unfolding route_at
-returns-then-not-well_formed c = rw (sym c.well_formed-2.ensures ∙ not-true _ c.if-not-well_formed.true-raw)
+returns-then-not-formed c = rw (sym c.formed.ensures ∙ not-true _ c.if-not-formed.true-raw)
 
 pub routes_seen-requires : goal.routes_seen-requires
-routes_seen-requires c = (state-told _).fact (sym c.well_formed-2.ensures ∙ not-false _ c.if-not-well_formed.false-raw)
+routes_seen-requires c = (state-told _).fact (sym c.formed.ensures ∙ not-false _ c.if-not-formed.false-raw)
 
 pub returns : goal.returns
 unfolding route_at
-returns c = rw (sym c.well_formed-2.ensures ∙ not-false _ c.if-not-well_formed.false-raw, c.at-answer.ensures, ap routes.rows_of c.routes_seen.ensures)
+returns c = rw (sym c.formed.ensures ∙ not-false _ c.if-not-formed.false-raw, c.at-answer.ensures, ap routes.rows_of c.routes_seen.ensures)
