@@ -59,7 +59,8 @@ fn ask(world: World, group: u64, number: u64, args: &[u64], store: &[u16]) -> An
     numbers::no_call()
 }
 
-// A call that changes the routing state and is not lent the store.
+// A call that changes the routing state and is not lent the store. Never inlined, so that `call` is: both states are moved once less.
+#[inline(never)]
 fn change_routing(routing: Routing, group: u64, number: u64, args: &[u64]) -> RoutingReply
     ensures { result ≡ routes_by routing group number args.now }
 {

@@ -135,7 +135,8 @@ fn ready(world: World, length: usize, waiting: usize) -> Machine {
     }
 }
 
-// A call made and answered.
+// A call made and answered. Never inlined, so that `line` does not move the machine once more.
+#[inline(never)]
 fn made(
     rt: &impl Print,
     m: Machine,
